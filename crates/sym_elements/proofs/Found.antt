@@ -1,12 +1,12 @@
 -- The places of a cell in an object: a run that is at none ends.
-use Rattle.std.proofs.Common.{◌≡◌, ℕ, suc, ◌+◌, ◌*◌, ◌<◌, ◌≤◌, Bool, true, false, cond, not, ◌&&◌, ℤ, List, length, map, refl, sym, ◌∙◌, ap, ap₂, subst, arith, Option, Some, None, is_some, true≢false}
+use Rattle.std.proofs.Common.{◌≡◌, ℕ, ◌+◌, ◌*◌, ◌<◌, ◌≤◌, Bool, true, false, cond, not, ◌&&◌, ℤ, List, length, map, refl, sym, ◌∙◌, ap, ap₂, subst, arith, Option, Some, None, is_some, true≢false}
 use Rattle.c_core.specs.Tree.{Program}
 use Rattle.c_core.specs.Types.{is_signed}
 use Rattle.c_core.specs.declared.number.IntType.{IntType}
-use Rattle.c_meaning.specs.Duties.{Placed, Duties}
-use Rattle.c_meaning.specs.Havoc as definition
+use Rattle.sym_meaning.specs.Judged as definition
 use Rattle.c_meaning.specs.Objects.{size_of_object, columns_of_object}
 use Rattle.c_meaning.specs.Run.{index_below, in_row}
+use Rattle.sym_meaning.specs.Mode.{Mode}
 use Rattle.circuits.specs.declared.net.Bit.{Bit}
 use Rattle.circuits.specs.declared.net.NetNode.{NetNode}
 use Rattle.circuits.specs.Net.{holds, Grown, Means}
@@ -67,7 +67,7 @@ outside_turned p places fits none x = record {
   is = λ v. x.is v ∙ ap₂ stopped (none.means.is v) (stand_grown p v none.grown fits);
 }
 
-module _ (p : Program) (I : List Placed) (o cost : ℕ) {i m : ℕ} {s n : Sym} {net : List NetNode} {cell : MaybeCell} {places : Places} (fits : IsState p s) (made : ArePlaced s.net net i m cell places) (few : m ≤ size_of_object p o)
+module _ (p : Program) (W : Mode) (o cost : ℕ) {i m : ℕ} {s n : Sym} {net : List NetNode} {cell : MaybeCell} {places : Places} (fits : IsState p s) (made : ArePlaced s.net net i m cell places) (few : m ≤ size_of_object p o)
     (x : Turned p (length places.bits + 1) 0 (record s { net = net }) n (λ v. stopped (none_true (map (holds v net) places.bits)))) (enough : i + (m + 1) ≤ cost) where
   abbrev inside : (ℕ → Bool) → Bool
   inside v = is_some (cell v)
@@ -107,8 +107,8 @@ module _ (p : Program) (I : List Placed) (o cost : ℕ) {i m : ℕ} {s n : Sym} 
   dead : (v : ℕ → Bool) (a : Stand) (t : Bool) → a.live ≡ false → stopped t a ≡ a
   dead v a t h = λ j. record a { live = (ap (λ l. l && not t) h ∙ sym h) j }
 
-  goes : (v : ℕ → Bool) (a : Stand) (rest : List ℤ) → IsHere (length (Duties p I)) a → (c : Option ℕ) → cell v ≡ c
-      → Came (Duties p I) (λ k. k ≡ key_at o v n.net places.bits) (stopped (not (is_some c)) a) rest (definition.key_of p I o c (left_of a rest))
+  goes : (v : ℕ → Bool) (a : Stand) (rest : List ℤ) → IsHere (length W.duties) a → (c : Option ℕ) → cell v ≡ c
+      → Came W.duties (λ k. k ≡ key_at o v n.net places.bits) (stopped (not (is_some c)) a) rest (definition.key_of o c (left_of a rest))
   unfolding one_place
   goes v a rest h (Some k) e = (
     record { live = ap (λ l. l && true) h.live; broken = h.broken; again = h.again; gave = h.gave; failing = h.failing },
@@ -121,10 +121,10 @@ module _ (p : Program) (I : List Placed) (o cost : ℕ) {i m : ℕ} {s n : Sym} 
       and_never true = refl
       and_never false = refl
 
-  pub finds : Finds p I o cost cell s n places
+  pub finds : Finds p W o cost cell s n places
   finds = record {
     places_of = found_places;
-    follows = turned_follows p (Duties p I) (λ v. stopped (not (inside v))) whole (λ v. refl) (λ v d. dead v (stand p v s) (not (inside v)) d) (λ v h rest. goes v (stand p v s) rest h (cell v) refl);
+    follows = turned_follows p W.duties (λ v. stopped (not (inside v))) whole (λ v. refl) (λ v d. dead v (stand p v s) (not (inside v)) d) (λ v h rest. goes v (stand p v s) rest h (cell v) refl);
   }
 
 -- ---- the cells of an index, and of a row and a column

@@ -8,10 +8,9 @@ use Rattle.c_core.specs.Tree.{Program}
 use Rattle.c_core.specs.Types.{width_of}
 use Rattle.c_core.specs.declared.number.IntType.{IntType}
 use Rattle.c_meaning.specs.Cells.{read}
-use Rattle.c_meaning.specs.Duties.{Placed, Duties}
 use Rattle.c_meaning.specs.Objects.{type_of_object, size_of_object}
+use Rattle.sym_meaning.specs.Mode.{Mode}
 use Rattle.circuits.specs.declared.net.Bit.{Bit}
-use Rattle.circuits.specs.declared.net.NetNode.{NetNode}
 use Rattle.circuits.specs.Net.{holds, IsIn}
 use Rattle.circuits.specs.Numbers.{number, digit, typed, AreIn, Reads}
 use Rattle.sym_state.specs.declared.state.Sym.{Sym}
@@ -22,7 +21,7 @@ use Rattle.sym_state.proofs.Composed.{turned_follows}
 use Rattle.sym_values.specs.Valuing.{Reckoned, Gives}
 use Rattle.sym_elements.specs.declared.placing.Places.{Places}
 use Rattle.sym_elements.specs.Marks.{HasOne}
-use Rattle.sym_elements.specs.Placing.{cell_number, told_by, Spells}
+use Rattle.sym_elements.specs.Placing.{cell_number, told_by}
 use Rattle.sym_elements.specs.Elements.{ArePlaces, width_of_element, picked_cost, read_cost, read_in, IsPicked}
 use Rattle.sym_elements.proofs.Spelling.{column_less, cell_apart, cell_below, cell_of_none, cell_added}
 use Rattle.sym_elements.proofs.Kept.{first_is}
@@ -181,12 +180,12 @@ module _ (p : Program) (o inner columns : ℕ) where
 
 module _ (p : Program) (o : ℕ) where
   -- the tree of all digits, of a run that is here
-  pub picked_all : {s n : Sym} {ty : IntType} {bits : List Bit} {count : ℕ} (I : List Placed) (places : Places) → ty ≡ type_of_object p o → count ≡ length places.bits → ArePlaces p s o places
-      → IsPicked p o places.inner places.columns 0 count places.digits s n bits → Gives p I (read_cost p o) 0 s n (Some ty) bits (read_in p I o places.bits s)
-  picked_all {s} {n} {ty} {bits} {count} I places same e x r =
-      subst (λ t. Gives p I (read_cost p o) 0 s n (Some t) bits (read_in p I o places.bits s)) (sym same) (record {
+  pub picked_all : {s n : Sym} {ty : IntType} {bits : List Bit} {count : ℕ} (W : Mode) (places : Places) → ty ≡ type_of_object p o → count ≡ length places.bits → ArePlaces p s o places
+      → IsPicked p o places.inner places.columns 0 count places.digits s n bits → Gives p W (read_cost p o) 0 s n (Some ty) bits (read_in p W o places.bits s)
+  picked_all {s} {n} {ty} {bits} {count} W places same e x r =
+      subst (λ t. Gives p W (read_cost p o) 0 s n (Some t) bits (read_in p W o places.bits s)) (sym same) (record {
         bits_in = r.bits_in;
-        follows = turned_follows p (Duties p I) (λ v z. z)
+        follows = turned_follows p W.duties (λ v z. z)
             (record {
               fits = r.turned.fits;
               added = added_then (read_cost p o) 0 (unchanged 0 s.net) r.turned.added (less count (size_of_object p o) (4 * width_of_element p o) (omega (arith, e, x.few))) (omega arith);

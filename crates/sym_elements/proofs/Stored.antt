@@ -8,8 +8,8 @@ use Rattle.c_core.specs.Tree.{Program}
 use Rattle.c_core.specs.Types.{width_of, fit}
 use Rattle.c_core.specs.declared.number.IntType.{IntType}
 use Rattle.c_meaning.specs.Cells.{Key, put}
-use Rattle.c_meaning.specs.Duties.{Placed, Duties}
 use Rattle.c_meaning.specs.Objects.{type_of_object, size_of_object}
+use Rattle.sym_meaning.specs.Mode.{Mode}
 use Rattle.circuits.specs.declared.net.Bit.{Bit}
 use Rattle.circuits.specs.declared.net.NetNode.{NetNode}
 use Rattle.circuits.specs.Net.{holds, Grown, Means, IsIn}
@@ -153,11 +153,11 @@ module _ (p : Program) (o : ℕ) where
   places_reckoned {places = places} x r = places_moved p o places x r.turned.added (λ v live. ap (λ a. a.live) (sym (r.turned.is v)) ∙ live)
 
   -- a value is converted, and stored
-  pub element_stores : {s one n : Sym} {bits : List Bit} (places value : List Bit) (I : List Placed) (from to : IntType) → to ≡ type_of_object p o → AreIn s.net places
+  pub element_stores : {s one n : Sym} {bits : List Bit} (places value : List Bit) (W : Mode) (from to : IntType) → to ≡ type_of_object p o → AreIn s.net places
       → Reckoned p (conversion_cost p.model from to) s one to bits (λ v. fit p.model to (typed p.model from v s.net value))
       → Turned p (written_cost p o) 0 one n (λ v. stored (holds v one.net one.live) (key_at o v one.net places) (typed p.model (type_of_object p o) v one.net bits))
-      → Gives p I (stored_cost p from o) 0 s n (Some to) bits (stored_in p I o places from value s)
-  element_stores {s} {one} {n} {bits} places value I from to e inside r x =
+      → Gives p W (stored_cost p from o) 0 s n (Some to) bits (stored_in p W o places from value s)
+  element_stores {s} {one} {n} {bits} places value W from to e inside r x =
       let z : (ℕ → Bool) → ℤ = λ v. fit p.model (type_of_object p o) (typed p.model from v s.net value) in
       let k : (ℕ → Bool) → Key = λ v. key_at o v s.net places in
       let whole : Turned p (stored_cost p from o) 0 s n (λ v a. stored a.live (k v) (z v) a) = record {
@@ -173,11 +173,11 @@ module _ (p : Program) (o : ℕ) where
       } in
       record {
         bits_in = are_typed_added x.added r.bits_in;
-        follows = turned_follows p (Duties p I) (λ v a. stored a.live (k v) (z v) a) whole (λ v. refl) (λ v d. dead_store (k v) (z v) (stand p v s) d)
+        follows = turned_follows p W.duties (λ v a. stored a.live (k v) (z v) a) whole (λ v. refl) (λ v d. dead_store (k v) (z v) (stand p v s) d)
             (λ v here rest.
             let a = stand p v s in (
               record { live = here.live; broken = here.broken; again = here.again; gave = here.gave; failing = here.failing },
-              (λ i. record { cells = cond (sym here.live i) (put (k v) (z v) a.cells) a.cells; values = rest; draws = a.draws }),
+              (λ i. record { cells = cond (sym here.live i) (put (k v) (z v) a.cells) a.cells; values = rest; draws = a.draws; completed = a.completed }),
               sym (typed_added x.added p.model to v bits r.bits_in ∙ r.is v ∙ ap (λ t. fit p.model t (typed p.model from v s.net value)) e),
             ));
       }

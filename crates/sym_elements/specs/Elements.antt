@@ -8,10 +8,10 @@ use Rattle.c_core.specs.Tree.{Program}
 use Rattle.c_core.specs.Types.{width_of}
 use Rattle.c_core.specs.declared.number.IntType.{IntType}
 use Rattle.c_meaning.specs.Cells.{Key, read}
-use Rattle.c_meaning.specs.Duties.{Placed, Duties}
 use Rattle.c_meaning.specs.Eval.{store}
-use Rattle.c_meaning.specs.Havoc as definition
-use Rattle.c_meaning.specs.Havoc.{havoc}
+use Rattle.sym_meaning.specs.Judged as definition
+use Rattle.sym_meaning.specs.Mode.{Mode}
+use Rattle.sym_meaning.specs.Judged.{judged}
 use Rattle.c_meaning.specs.Objects.{type_of_object, size_of_object, columns_of_object}
 use Rattle.c_meaning.specs.Run.{index_below, in_row}
 use Rattle.circuits.specs.declared.net.Bit.{Bit}
@@ -85,21 +85,21 @@ module _ (p : Program) where
       in_row (columns_of_object p o) (index_below (rows_of p o) (typed p.model row_type v s.net row))
       (index_below (columns_of_object p o) (typed p.model column_type v s.net column))
 
-  -- I: the invariants in witness order
-  module _ (I : List Placed) where
+  -- W: the mode
+  module _ (W : Mode) where
     -- to a cell, or to the end where there is none (C11 6.5.6p8)
     abbrev pub found_in : ℕ → MaybeCell → Deed Key
-    found_in o cell v s = definition.key_of p I o (cell v) s
+    found_in o cell v s = definition.key_of o (cell v) s
 
     -- the cell that the places tell of is read
     abbrev pub read_in : ℕ → List Bit → Sym → Deed ℤ
-    read_in o places old v s = (havoc p I).look (key_at o v old.net places) s
+    read_in o places old v s = (judged p W).look (key_at o v old.net places) s
 
     -- a value of a type is converted to the object's, and stored in that cell
     abbrev pub stored_in : ℕ → List Bit → IntType → List Bit → Sym → Deed ℤ
-    stored_in o places from value old v s = store p (havoc p I) (key_at o v old.net places) from (type_of_object p o) (typed p.model from v old.net value) s
+    stored_in o places from value old v s = store p (judged p W) (key_at o v old.net places) from (type_of_object p o) (typed p.model from v old.net value) s
 
     -- a run that is here goes on at the cell that its place tells of, or ends
     pub record Finds (o cost : ℕ) (cell : MaybeCell) (old new : Sym) (places : Places) : Type 0 where
       pub places_of : ArePlaces p new o places
-      pub follows : Follows (Duties p I) p cost 0 old new (λ v k. k ≡ key_at o v new.net places.bits) (found_in o cell)
+      pub follows : Follows W.duties p cost 0 old new (λ v k. k ≡ key_at o v new.net places.bits) (found_in o cell)

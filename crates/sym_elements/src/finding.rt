@@ -1,7 +1,7 @@
 // Where each run is in an array: a run that is outside ends.
 ghost use Rattle.std.specs.Prelude.{◌+◌, ◌<◌, ◌^◌, IfOk, List, length, map};
 ghost use Rattle.c_core.specs.View.{program_view};
-ghost use Rattle.c_meaning.specs.Duties.{Placed};
+ghost use Rattle.sym_meaning.specs.Mode.{Mode};
 ghost use Rattle.circuits.specs.Net.{holds};
 ghost use Rattle.circuits.specs.Numbers.{AreIn, AreTyped};
 ghost use Rattle.sym_state.specs.Standing.{IsState, Turned, stopped};
@@ -42,8 +42,8 @@ pub fn find(
     requires fits { IsState (program_view program.now) sym.old }
     requires index_in { AreTyped program.now.model ty sym.old.net index.now.bits }
     requires room { length sym.old.net + found_cost (program_view program.now) ty object < 2 ^ 28 }
-    ensures { IfOk result (λ r. (I : List Placed)
-        → Finds (program_view program.now) I object (found_cost (program_view program.now) ty object)
+    ensures { IfOk result (λ r. (W : Mode)
+        → Finds (program_view program.now) W object (found_cost (program_view program.now) ty object)
         (index_in (program_view program.now) object ty index.now.bits sym.old) sym.old sym.new r) }
 {
     let count = size_of_object(program, object) as usize;
@@ -69,8 +69,8 @@ pub fn find_in_row(
     requires column_in { AreTyped program.now.model column_type sym.old.net column.now.bits }
     requires room { length sym.old.net + found_row_cost (program_view program.now) row_type column_type object < 2 ^
         28 }
-    ensures { IfOk result (λ r. (I : List Placed)
-        → Finds (program_view program.now) I object
+    ensures { IfOk result (λ r. (W : Mode)
+        → Finds (program_view program.now) W object
         (found_row_cost (program_view program.now) row_type column_type object)
         (row_in (program_view program.now) object row_type row.now.bits column_type column.now.bits sym.old) sym.old
         sym.new r) }

@@ -1,8 +1,8 @@
 // Elements are read.
 ghost use Rattle.std.specs.Prelude.{◌≡◌, ◌+◌, ◌-◌, ◌*◌, ◌<◌, ◌^◌, IfOk, List, Some, length, min};
 ghost use Rattle.c_core.specs.View.{program_view};
-ghost use Rattle.c_meaning.specs.Duties.{Placed};
 ghost use Rattle.c_meaning.specs.Objects.{type_of_object};
+ghost use Rattle.sym_meaning.specs.Mode.{Mode};
 ghost use Rattle.circuits.specs.Numbers.{AreIn};
 ghost use Rattle.sym_state.specs.Standing.{IsState};
 ghost use Rattle.sym_values.specs.Valuing.{Gives};
@@ -102,9 +102,9 @@ pub fn read_element(
     requires typed { ty ≡ type_of_object (program_view program.now) object }
     requires places_of { ArePlaces (program_view program.now) sym.old object places.now }
     requires room { length sym.old.net + read_cost (program_view program.now) object < 2 ^ 28 }
-    ensures { IfOk result (λ r. (I : List Placed)
-        → Gives (program_view program.now) I (read_cost (program_view program.now) object) 0 sym.old sym.new (Some ty)
-        r.bits (read_in (program_view program.now) I object places.now.bits sym.old)) }
+    ensures { IfOk result (λ r. (W : Mode)
+        → Gives (program_view program.now) W (read_cost (program_view program.now) object) 0 sym.old sym.new (Some ty)
+        r.bits (read_in (program_view program.now) W object places.now.bits sym.old)) }
 {
     let digits = places.digits.as_slice();
     let count = places.bits.len() as u32;

@@ -1,8 +1,8 @@
 // Elements are written.
 ghost use Rattle.std.specs.Prelude.{◌≡◌, ◌+◌, ◌*◌, ◌<◌, ◌^◌, ◌&&◌, IfOk, List, Some, length};
 ghost use Rattle.c_core.specs.View.{program_view};
-ghost use Rattle.c_meaning.specs.Duties.{Placed};
 ghost use Rattle.c_meaning.specs.Objects.{type_of_object};
+ghost use Rattle.sym_meaning.specs.Mode.{Mode};
 ghost use Rattle.circuits.specs.Net.{holds, IsIn};
 ghost use Rattle.circuits.specs.Numbers.{typed, AreTyped};
 ghost use Rattle.sym_state.specs.Places.{key};
@@ -84,9 +84,9 @@ pub fn store_element(
     requires places_of { ArePlaces (program_view program.now) sym.old object places.now }
     requires value_in { AreTyped program.now.model from sym.old.net value.now.bits }
     requires room { length sym.old.net + stored_cost (program_view program.now) from object < 2 ^ 28 }
-    ensures { IfOk result (λ r. (I : List Placed)
-        → Gives (program_view program.now) I (stored_cost (program_view program.now) from object) 0 sym.old sym.new
-        (Some to) r.bits (stored_in (program_view program.now) I object places.now.bits from value.now.bits sym.old)) }
+    ensures { IfOk result (λ r. (W : Mode)
+        → Gives (program_view program.now) W (stored_cost (program_view program.now) from object) 0 sym.old sym.new
+        (Some to) r.bits (stored_in (program_view program.now) W object places.now.bits from value.now.bits sym.old)) }
 {
     let bits = convert(alloc, program, sym, from, to, value)?;
     write_element(alloc, program, sym, object, places, &bits)?;

@@ -12,10 +12,11 @@ use Rattle.c_core.specs.View.{expr_view, exprs_view}
 use Rattle.c_core.specs.declared.number.IntType.{IntType}
 use Rattle.c_core.specs.declared.tree.Expr.{Expr}
 use Rattle.c_meaning.specs.Acts.{Res, Go, Stop, bind}
-use Rattle.c_meaning.specs.Duties.{Placed, Duties}
 use Rattle.c_meaning.specs.Eval.{eval, evals}
 use Rattle.c_meaning.specs.Fitting.{calls_in}
-use Rattle.c_meaning.specs.Havoc.{Stopped, Left, havoc}
+use Rattle.c_meaning.specs.Havoc.{Stopped}
+use Rattle.sym_meaning.specs.Mode.{JudgedState, Mode}
+use Rattle.sym_meaning.specs.Judged.{judged}
 use Rattle.c_meaning.specs.Meaning.{Where, Calls, Used}
 use Rattle.c_meaning.specs.Objects.{type_of, type_or_int}
 use Rattle.c_meaning.proofs.TypeFacts.{both, some_type}
@@ -74,34 +75,34 @@ module _ (p : Program) (pick : ℕ → ℕ → ℕ) (body : ℕ → ℕ) where
       ap all_of (take-suc es i d l ∙ ap (λ z. take i es ++ z ∷ []) (sym q)) ∙ amount_snoc (take i es) e in
       omega (arith, s, amount_front (suc i) es)
 
-module _ (p : Program) (I : List Placed) (call : Calls (havoc p I)) (at : Where) where
+module _ (p : Program) (W : Mode) (call : Calls (judged p W)) (at : Where) where
   abbrev Pairs : Type 0
   Pairs = List (ℤ × IntType)
 
-  abbrev with_one : Expr → Pairs → Left → Res Stopped Left Pairs
-  with_one e vs s = bind (eval p (havoc p I) call at Used (expr_view e) s) (λ z. Go (vs ++ (z, type_of (expr_view e)) ∷ []))
+  abbrev with_one : Expr → Pairs → JudgedState → Res Stopped JudgedState Pairs
+  with_one e vs s = bind (eval p (judged p W) call at Used (expr_view e) s) (λ z. Go (vs ++ (z, type_of (expr_view e)) ∷ []))
 
   -- a value in front of what comes
-  moved : (e : Expr) (y : ℤ × IntType) (vs : Pairs) (r : Res Stopped Left ℤ)
+  moved : (e : Expr) (y : ℤ × IntType) (vs : Pairs) (r : Res Stopped JudgedState ℤ)
       → bind (bind r (λ z. Go (vs ++ (z, type_of (expr_view e)) ∷ []))) (λ ws. Go (y ∷ ws)) ≡ bind r (λ z. Go (y ∷ vs ++ (z, type_of (expr_view e)) ∷ []))
   moved e y vs (Stop x t) = refl
   moved e y vs (Go z t) = refl
 
-  front_of : (e : Expr) (y : ℤ × IntType) (r : Res Stopped Left Pairs) → bind (bind r (with_one e)) (λ vs. Go (y ∷ vs)) ≡ bind (bind r (λ vs. Go (y ∷ vs))) (with_one e)
+  front_of : (e : Expr) (y : ℤ × IntType) (r : Res Stopped JudgedState Pairs) → bind (bind r (with_one e)) (λ vs. Go (y ∷ vs)) ≡ bind (bind r (λ vs. Go (y ∷ vs))) (with_one e)
   front_of e y (Stop x s) = refl
-  front_of e y (Go vs s) = moved e y vs (eval p (havoc p I) call at Used (expr_view e) s)
+  front_of e y (Go vs s) = moved e y vs (eval p (judged p W) call at Used (expr_view e) s)
 
-  evals_then : (x e : Expr) (es : List Expr) → ((s : Left) → evals p (havoc p I) call at (exprs_view (es ++ e ∷ [])) s ≡ bind (evals p (havoc p I) call at (exprs_view es) s) (with_one e)) → (r : Res Stopped Left ℤ)
-      → bind r (λ z s. bind (evals p (havoc p I) call at (exprs_view (es ++ e ∷ [])) s) (λ vs. Go ((z, type_of (expr_view x)) ∷ vs)))
-      ≡ bind (bind r (λ z s. bind (evals p (havoc p I) call at (exprs_view es) s) (λ vs. Go ((z, type_of (expr_view x)) ∷ vs)))) (with_one e)
+  evals_then : (x e : Expr) (es : List Expr) → ((s : JudgedState) → evals p (judged p W) call at (exprs_view (es ++ e ∷ [])) s ≡ bind (evals p (judged p W) call at (exprs_view es) s) (with_one e)) → (r : Res Stopped JudgedState ℤ)
+      → bind r (λ z s. bind (evals p (judged p W) call at (exprs_view (es ++ e ∷ [])) s) (λ vs. Go ((z, type_of (expr_view x)) ∷ vs)))
+      ≡ bind (bind r (λ z s. bind (evals p (judged p W) call at (exprs_view es) s) (λ vs. Go ((z, type_of (expr_view x)) ∷ vs)))) (with_one e)
   evals_then x e es h (Stop y s) = refl
   evals_then x e es h (Go z s) =
-      ap (λ r. bind r (λ vs. Go ((z, type_of (expr_view x)) ∷ vs))) (h s) ∙ front_of e (z, type_of (expr_view x)) (evals p (havoc p I) call at (exprs_view es) s)
+      ap (λ r. bind r (λ vs. Go ((z, type_of (expr_view x)) ∷ vs))) (h s) ∙ front_of e (z, type_of (expr_view x)) (evals p (judged p W) call at (exprs_view es) s)
 
   -- arguments, and one more
-  pub evals_snoc : (es : List Expr) (e : Expr) (s : Left) → evals p (havoc p I) call at (exprs_view (es ++ e ∷ [])) s ≡ bind (evals p (havoc p I) call at (exprs_view es) s) (with_one e)
+  pub evals_snoc : (es : List Expr) (e : Expr) (s : JudgedState) → evals p (judged p W) call at (exprs_view (es ++ e ∷ [])) s ≡ bind (evals p (judged p W) call at (exprs_view es) s) (with_one e)
   evals_snoc [] e s = refl
-  evals_snoc (x ∷ es) e s = evals_then x e es (evals_snoc es e) (eval p (havoc p I) call at Used (expr_view x) s)
+  evals_snoc (x ∷ es) e s = evals_then x e es (evals_snoc es e) (eval p (judged p W) call at Used (expr_view x) s)
 
 type_or : (e : Exp) → type_or_int (type_if e) ≡ type_of e
 type_or (t.Expr spot ty node) = refl
@@ -109,11 +110,11 @@ type_or (t.Expr spot ty node) = refl
 has_one : (e : Exp) → IsTrue (has_value e) → type_if e ≡ Some (type_of e)
 has_one e h = some_type (type_if e) h ∙ ap Some (type_or e)
 
-module _ (p : Program) (I : List Placed) (n : ℕ) (at : Around) where
+module _ (p : Program) (W : Mode) (n : ℕ) (at : Around) where
   -- an argument is evaluated behind those in front of it
-  pub argument_ready : {s m : Sym} {xs : List Argument} (es : List Expr) (i : ℕ) (e : Expr) → i < length es → e ≡ get_or es i e → AllReady p I n at s (exprs_view es) → AllValues p I n at (exprs_view (take i es)) s m xs → Ready p I n at m (expr_view e)
+  pub argument_ready : {s m : Sym} {xs : List Argument} (es : List Expr) (i : ℕ) (e : Expr) → i < length es → e ≡ get_or es i e → AllReady p W n at s (exprs_view es) → AllValues p W n at (exprs_view (take i es)) s m xs → Ready p W n at m (expr_view e)
   argument_ready {s} {m} es i e l q h x =
-      let w = amount_at p (λ w b. w) (weight_in p I n) es i e e l q in
+      let w = amount_at p (λ w b. w) (weight_in p W.placed n) es i e e l q in
       let b = amount_at p (λ w b. b) (bits_in p n) es i e e l q in
       record {
         fits = x.follows.fits;
@@ -123,44 +124,44 @@ module _ (p : Program) (I : List Placed) (n : ℕ) (at : Around) where
       }
 
   -- it weighs no more than all
-  pub argument_weight : (es : List Expr) (i : ℕ) (e : Expr) → i < length es → e ≡ get_or es i e → weight_of p I n (expr_view e) ≤ weight_of_all p I n (exprs_view es)
-  argument_weight es i e l q = let w = amount_at p (λ w b. w) (weight_in p I n) es i e e l q in omega (arith, w)
+  pub argument_weight : (es : List Expr) (i : ℕ) (e : Expr) → i < length es → e ≡ get_or es i e → weight_of p W n (expr_view e) ≤ weight_of_all p W n (exprs_view es)
+  argument_weight es i e l q = let w = amount_at p (λ w b. w) (weight_in p W.placed n) es i e e l q in omega (arith, w)
 
-  pub first_values : (s : Sym) → IsState p s → AllValues p I n at NoExp s s []
+  pub first_values : (s : Sym) → IsState p s → AllValues p W n at NoExp s s []
   first_values s h = record {
     types = refl;
     bits_in = All-nil (IsArgument p s.net);
-    follows = net_follows p (Duties p I) (λ v. []) (record { fits = h; added = unchanged 0 s.net; level = refl; result = refl; is = λ v. refl }) (λ v. refl);
+    follows = net_follows p W.duties (λ v. []) (record { fits = h; added = unchanged 0 s.net; level = refl; result = refl; is = λ v. refl }) (λ v. refl);
   }
 
-  next_follows : {s m r : Sym} {bits : Bits} (es : List Expr) (e : Expr) (xs : List Argument) → type_if (expr_view e) ≡ Some (type_of (expr_view e)) → AllValues p I n at (exprs_view es) s m xs → Values p I n at Used (expr_view e) m r bits.bits
-      → AllValues p I n at (exprs_view (es ++ e ∷ [])) s r (xs ++ record { bits = bits; ty = type_of (expr_view e) } ∷ [])
+  next_follows : {s m r : Sym} {bits : Bits} (es : List Expr) (e : Expr) (xs : List Argument) → type_if (expr_view e) ≡ Some (type_of (expr_view e)) → AllValues p W n at (exprs_view es) s m xs → Values p W n at Used (expr_view e) m r bits.bits
+      → AllValues p W n at (exprs_view (es ++ e ∷ [])) s r (xs ++ record { bits = bits; ty = type_of (expr_view e) } ∷ [])
   next_follows {s} {m} {r} {bits} es e xs k x y =
       let ty = type_of (expr_view e) in
       let a : Argument = record { bits = bits; ty = ty } in
       let wide : IsArgument p r.net a = subst (λ z. AreOf p.model z r.net bits.bits) k y.bits_in in
-      let one : Follows (Duties p I) p (weight_of p I n (expr_view e)) (bits_of p I n (expr_view e)) m r (IsNumber p.model (Some ty) r.net bits.bits) (evaluated p I n at Used (expr_view e)) =
-      subst (λ z. Follows (Duties p I) p (weight_of p I n (expr_view e)) (bits_of p I n (expr_view e)) m r (IsNumber p.model z r.net bits.bits) (evaluated p I n at Used (expr_view e))) k y.follows in
+      let one : Follows W.duties p (weight_of p W n (expr_view e)) (bits_of p W n (expr_view e)) m r (IsNumber p.model (Some ty) r.net bits.bits) (evaluated p W n at Used (expr_view e)) =
+      subst (λ z. Follows W.duties p (weight_of p W n (expr_view e)) (bits_of p W n (expr_view e)) m r (IsNumber p.model z r.net bits.bits) (evaluated p W n at Used (expr_view e))) k y.follows in
       let all : (v : ℕ → Bool) → values_at p v m.net xs ++ value_at p v r.net a ∷ [] ≡ values_at p v r.net (xs ++ a ∷ []) =
       λ v. ap (λ z. z ++ value_at p v r.net a ∷ []) (sym (values_added p one.added v xs x.bits_in)) ∙ sym (map-append (value_at p v r.net) xs (a ∷ [])) in
-      let last = follows_then p (Duties p I) (weight_of p I n (expr_view e)) (bits_of p I n (expr_view e)) (λ v z. Go (values_at p v m.net xs ++ (z, ty) ∷ [])) one
-      (net_follows p (Duties p I) {i = 0} {S = λ v vs. vs ≡ values_at p v r.net (xs ++ a ∷ [])} (λ v. values_at p v m.net xs ++ value_at p v r.net a ∷ []) (record { fits = one.fits; added = unchanged 0 r.net; level = refl; result = refl; is = λ v. refl }) all)
+      let last = follows_then p W.duties (weight_of p W n (expr_view e)) (bits_of p W n (expr_view e)) (λ v z. Go (values_at p v m.net xs ++ (z, ty) ∷ [])) one
+      (net_follows p W.duties {i = 0} {S = λ v vs. vs ≡ values_at p v r.net (xs ++ a ∷ [])} (λ v. values_at p v m.net xs ++ value_at p v r.net a ∷ []) (record { fits = one.fits; added = unchanged 0 r.net; level = refl; result = refl; is = λ v. refl }) all)
       (λ v z q t. ap (λ z. Go (values_at p v m.net xs ++ (z, ty) ∷ []) t) q) (omega arith) (omega arith) in
-      let w = amount_snoc p (λ w b. w) (weight_in p I n) es e in
+      let w = amount_snoc p (λ w b. w) (weight_in p W.placed n) es e in
       let b = amount_snoc p (λ w b. b) (bits_in p n) es e in
       record {
         types = map-append (λ x. x.ty) xs (a ∷ []) ∙ ap (λ z. z ++ ty ∷ []) x.types ∙ sym (map-append type_of (exps_in (exprs_view es)) (expr_view e ∷ [])) ∙ ap (map type_of) (sym (list_snoc es e));
         bits_in = All-append (IsArgument p r.net) xs (a ∷ []) (arguments_added p one.added xs x.bits_in) (All-cons (IsArgument p r.net) a [] wide (All-nil (IsArgument p r.net)));
-        follows = follows_as p (Duties p I) (follows_then p (Duties p I) (weight_of_all p I n (exprs_view (es ++ e ∷ []))) (bits_of_all p I n (exprs_view (es ++ e ∷ [])))
-            (λ v. with_one p I (calls_in p (havoc p I) n) (where_of at) e) x.follows last (λ v vs q t. ap (λ z. with_one p I (calls_in p (havoc p I) n) (where_of at) e z t) q) (omega (arith, w)) (omega (arith, b)))
-            (λ v vs q. q) (λ v t. sym (evals_snoc p I (calls_in p (havoc p I) n) (where_of at) es e t)) (omega arith) (omega arith);
+        follows = follows_as p W.duties (follows_then p W.duties (weight_of_all p W n (exprs_view (es ++ e ∷ []))) (bits_of_all p W n (exprs_view (es ++ e ∷ [])))
+            (λ v. with_one p W (calls_in p (judged p W) n) (where_of at) e) x.follows last (λ v vs q t. ap (λ z. with_one p W (calls_in p (judged p W) n) (where_of at) e z t) q) (omega (arith, w)) (omega (arith, b)))
+            (λ v vs q. q) (λ v t. sym (evals_snoc p W (calls_in p (judged p W) n) (where_of at) es e t)) (omega arith) (omega arith);
       }
 
   -- the next argument of a list
-  pub next_values : {s m r : Sym} {bits : Bits} (es : List Expr) (i j : ℕ) (e : Expr) (ty : IntType) (xs : List Argument) → i < length es → j ≡ suc i → e ≡ get_or es i e → ty ≡ type_of (expr_view e) → AllReady p I n at s (exprs_view es)
-      → AllValues p I n at (exprs_view (take i es)) s m xs → Values p I n at Used (expr_view e) m r bits.bits → AllValues p I n at (exprs_view (take j es)) s r (xs ++ record { bits = bits; ty = ty } ∷ [])
+  pub next_values : {s m r : Sym} {bits : Bits} (es : List Expr) (i j : ℕ) (e : Expr) (ty : IntType) (xs : List Argument) → i < length es → j ≡ suc i → e ≡ get_or es i e → ty ≡ type_of (expr_view e) → AllReady p W n at s (exprs_view es)
+      → AllValues p W n at (exprs_view (take i es)) s m xs → Values p W n at Used (expr_view e) m r bits.bits → AllValues p W n at (exprs_view (take j es)) s r (xs ++ record { bits = bits; ty = ty } ∷ [])
   next_values {s} {m} {r} {bits} es i j e ty xs l ej q t h x y =
       let v : IsTrue (has_value (expr_view e)) = subst (λ z. IsTrue (has_value (expr_view z))) (sym q) (value_of_one es i e l h.values) in
       let front : take i es ++ e ∷ [] ≡ take j es = ap (λ z. take i es ++ z ∷ []) q ∙ sym (take-suc es i e l) ∙ ap (λ z. take z es) (sym ej) in
-      subst (λ z. AllValues p I n at (exprs_view z) s r (xs ++ record { bits = bits; ty = ty } ∷ [])) front
-      (subst (λ z. AllValues p I n at (exprs_view (take i es ++ e ∷ [])) s r (xs ++ record { bits = bits; ty = z } ∷ [])) (sym t) (next_follows (take i es) e xs (has_one (expr_view e) v) x y))
+      subst (λ z. AllValues p W n at (exprs_view z) s r (xs ++ record { bits = bits; ty = ty } ∷ [])) front
+      (subst (λ z. AllValues p W n at (exprs_view (take i es ++ e ∷ [])) s r (xs ++ record { bits = bits; ty = z } ∷ [])) (sym t) (next_follows (take i es) e xs (has_one (expr_view e) v) x y))

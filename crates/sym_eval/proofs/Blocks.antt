@@ -12,11 +12,10 @@ use Rattle.c_core.specs.declared.tree.Form as tree
 use Rattle.c_core.specs.declared.tree.Stmt as rust
 use Rattle.std.specs.declared.alloc.Global.{Global}
 use Rattle.std.specs.declared.boxed.Box.{Box}
-use Rattle.c_meaning.specs.declared.run.DutyKind.TheVariants.{Location}
 use Rattle.c_meaning.specs.Acts.{bind, go_on}
-use Rattle.c_meaning.specs.Duties.{Placed, Duties}
 use Rattle.c_meaning.specs.Exec.{exec, execs}
-use Rattle.c_meaning.specs.Havoc.{havoc, test_from}
+use Rattle.sym_meaning.specs.Mode.{Mode}
+use Rattle.sym_meaning.specs.Judged.{judged}
 use Rattle.c_meaning.specs.Meaning.{Used, Unused}
 use Rattle.c_meaning.specs.Objects.{type_of}
 use Rattle.c_meaning.proofs.TypeFacts.{both, neither, no_type}
@@ -49,91 +48,91 @@ pub view_of_if : (e : rust_e.Expr) (a : Box rust.Stmt Global) (b : Option (Box r
 view_of_if e a None = refl
 view_of_if e a (Some b) = refl
 
-module _ (p : Program) (I : List Placed) (n : ℕ) (gives : Option IntType) where
+module _ (p : Program) (W : Mode) (n : ℕ) (gives : Option IntType) where
   -- ---- a statement: its location invariants, and its form
   abbrev pub Tests : Spot → Sym → Sym → Type 0
-  Tests at s m = Follows (Duties p I) p (placed_weight p I false at) 0 s m (λ v u. Unit {0}) (λ v. test_from p I 0 I false at Location)
+  Tests at s m = Follows W.duties p (placed_weight p W.placed false at) 0 s m (λ v u. Unit {0}) (λ v. W.here at)
 
-  pub test_room : {s : Sym} (at : Spot) (f : Form) → Ready p I n gives s (Stmt at f) → length s.net + placed_weight p I false at < 2 ^ 27
+  pub test_room : {s : Sym} (at : Spot) (f : Form) → Ready p W n gives s (Stmt at f) → length s.net + placed_weight p W.placed false at < 2 ^ 27
   test_room at f r = omega (arith, r.room)
 
-  pub form_ready : {s m : Sym} (at : Spot) (f : Form) → Ready p I n gives s (Stmt at f) → Tests at s m → FormReady p I n gives at m f
+  pub form_ready : {s m : Sym} (at : Spot) (f : Form) → Ready p W n gives s (Stmt at f) → Tests at s m → FormReady p W n gives at m f
   form_ready at f r x = record { fits = x.fits; result = x.result ∙ r.result; types = r.types; room = omega (arith, (longer_by x.added).1, r.room) }
 
-  pub statement_does : {s m t : Sym} (at : Spot) (f : Form) → Tests at s m → FormDoes p I n gives at f m t → Does p I n gives (Stmt at f) s t
-  statement_does at f x y = statement_runs p I (Duties p I) gives (calls p I n) (weight_of p I n gives (Stmt at f)) (bits_of p I n gives (Stmt at f)) at f x y (omega arith) (omega arith)
+  pub statement_does : {s m t : Sym} (at : Spot) (f : Form) → Tests at s m → FormDoes p W n gives at f m t → Does p W n gives (Stmt at f) s t
+  statement_does at f x y = statement_runs p W W.duties gives (calls p W n) true (weight_of p W n gives (Stmt at f)) (bits_of p W n gives (Stmt at f)) at f x y (omega arith) (omega arith)
 
   -- ---- forms without parts
-  pub empty_does : (s : Sym) (at : Spot) → IsState p s → FormDoes p I n gives at Empty s s
-  empty_does s at h = runs_as p (Duties p I) gives (skip_runs p (Duties p I) gives s h) (λ v t. refl) (omega arith) (omega arith)
+  pub empty_does : (s : Sym) (at : Spot) → IsState p s → FormDoes p W n gives at Empty s s
+  empty_does s at h = runs_as p W.duties gives (skip_runs p W.duties gives s h) (λ v t. refl) (omega arith) (omega arith)
 
-  pub break_does : {s t : Sym} (at : Spot) → Became p 1 s t (λ v. leaving) → FormDoes p I n gives at Break s t
-  break_does at x = runs_as p (Duties p I) gives (leave_runs p (Duties p I) gives x) (λ v t. refl) (omega arith) (omega arith)
+  pub break_does : {s t : Sym} (at : Spot) → Became p 1 s t (λ v. leaving) → FormDoes p W n gives at Break s t
+  break_does at x = runs_as p W.duties gives (leave_runs p W.duties gives x) (λ v t. refl) (omega arith) (omega arith)
 
-  pub continue_does : {s t : Sym} (at : Spot) → Became p 1 s t (λ v. going_again) → FormDoes p I n gives at Continue s t
-  continue_does at x = runs_as p (Duties p I) gives (again_runs p (Duties p I) gives x) (λ v t. refl) (omega arith) (omega arith)
+  pub continue_does : {s t : Sym} (at : Spot) → Became p 1 s t (λ v. going_again) → FormDoes p W n gives at Continue s t
+  continue_does at x = runs_as p W.duties gives (again_runs p W.duties gives x) (λ v t. refl) (omega arith) (omega arith)
 
-  pub return_does : {s t : Sym} (at : Spot) → FormReady p I n gives at s (Return None) → Became p 1 s t (λ v. going_back) → FormDoes p I n gives at (Return None) s t
-  return_does at r x = runs_as p (Duties p I) gives (back_runs p (Duties p I) gives x (sym (no_type gives (form_types p gives at (Return None) r.types).0))) (λ v t. refl) (omega arith) (omega arith)
+  pub return_does : {s t : Sym} (at : Spot) → FormReady p W n gives at s (Return None) → Became p 1 s t (λ v. going_back) → FormDoes p W n gives at (Return None) s t
+  return_does at r x = runs_as p W.duties gives (back_runs p W.duties gives x (sym (no_type gives (form_types p gives at (Return None) r.types).0))) (λ v t. refl) (omega arith) (omega arith)
 
-  pub form_room : {s : Sym} (at : Spot) (f : Form) → FormReady p I n gives at s f → length s.net < 2 ^ 28
+  pub form_room : {s : Sym} (at : Spot) (f : Form) → FormReady p W n gives at s f → length s.net < 2 ^ 28
   form_room at f r = omega (arith, r.room)
 
   -- ---- an expression, declared names, a label
-  pub only_ready : {s : Sym} (at : Spot) (e : Exp) → FormReady p I n gives at s (Do e) → FullReady p I n s e
+  pub only_ready : {s : Sym} (at : Spot) (e : Exp) → FormReady p W n gives at s (Do e) → FullReady p W n s e
   only_ready at e r = record { fits = r.fits; types = only_one (is_typed p) e (form_types p gives at (Do e) r.types).1; room = omega (arith, r.room) }
 
-  pub only_does : {s t : Sym} {bits : List Bit} (at : Spot) (e : Exp) → FullGives p I n at Unused e s t bits → FormDoes p I n gives at (Do e) s t
-  only_does at e x = runs_as p (Duties p I) gives (do_runs p I (Duties p I) gives (calls p I n) at e x.follows) (λ v t. refl) (omega arith) (omega arith)
+  pub only_does : {s t : Sym} {bits : List Bit} (at : Spot) (e : Exp) → FullGives p W n at Unused e s t bits → FormDoes p W n gives at (Do e) s t
+  only_does at e x = runs_as p W.duties gives (do_runs p W W.duties gives (calls p W n) true at e x.follows) (λ v t. refl) (omega arith) (omega arith)
 
-  pub names_ready : {s : Sym} (at : Spot) (ns : Names) → FormReady p I n gives at s (Declare ns) → NamesReady p I n s ns
+  pub names_ready : {s : Sym} (at : Spot) (ns : Names) → FormReady p W n gives at s (Declare ns) → NamesReady p W n s ns
   names_ready at ns r = record { fits = r.fits; types = (both (statement_fits p gives (Stmt at (Declare ns))) true r.types).0; room = omega (arith, r.room) }
 
-  pub names_do : {s t : Sym} (at : Spot) (ns : Names) → NamesDo p I n at ns s t → FormDoes p I n gives at (Declare ns) s t
-  names_do at ns x = runs_as p (Duties p I) gives (x gives) (λ v t. refl) (omega arith) (omega arith)
+  pub names_do : {s t : Sym} (at : Spot) (ns : Names) → NamesDo p W n at ns s t → FormDoes p W n gives at (Declare ns) s t
+  names_do at ns x = runs_as p W.duties gives (x gives) (λ v t. refl) (omega arith) (omega arith)
 
-  pub label_ready : {s : Sym} (at : Spot) (b : Stm) → FormReady p I n gives at s (Label b) → Ready p I n gives s b
+  pub label_ready : {s : Sym} (at : Spot) (b : Stm) → FormReady p W n gives at s (Label b) → Ready p W n gives s b
   label_ready at b r = record { fits = r.fits; result = r.result; types = (form_types p gives at (Label b) r.types).2; room = omega (arith, r.room) }
 
-  pub label_does : {s t : Sym} (at : Spot) (b : Stm) → Does p I n gives b s t → FormDoes p I n gives at (Label b) s t
-  label_does at b x = runs_as p (Duties p I) gives x (λ v t. refl) (omega arith) (omega arith)
+  pub label_does : {s t : Sym} (at : Spot) (b : Stm) → Does p W n gives b s t → FormDoes p W n gives at (Label b) s t
+  label_does at b x = runs_as p W.duties gives x (λ v t. refl) (omega arith) (omega arith)
 
   -- ---- scopes
-  pub scope_does : {s m t : Sym} (x : Stm) (k : ℕ) → Ready p I n gives s x → k ≡ length s.cells.items → Does p I n gives x s m → Became p 0 m t (λ v. cut_to k) → ScopeDoes p I n gives x s t
+  pub scope_does : {s m t : Sym} (x : Stm) (k : ℕ) → Ready p W n gives s x → k ≡ length s.cells.items → Does p W n gives x s m → Became p 0 m t (λ v. cut_to k) → ScopeDoes p W n gives x s t
   scope_does {s} {m} {t} x k r e y z =
       let z' : Became p 0 m t (λ v. cut_to (length s.cells.items)) = subst (λ j. Became p 0 m t (λ v. cut_to j)) e z in
-      record { runs = scoped_runs p (Duties p I) gives r.fits y z'; level = scope_level p (Duties p I) gives y z' }
+      record { runs = scoped_runs p W.duties gives r.fits y z'; level = scope_level p W.duties gives y z' }
 
-  pub block_ready : {s : Sym} (at : Spot) (b : Stms) → FormReady p I n gives at s (Block b) → BlockReady p I n gives s b
+  pub block_ready : {s : Sym} (at : Spot) (b : Stms) → FormReady p W n gives at s (Block b) → BlockReady p W n gives s b
   block_ready at b r = record { fits = r.fits; result = r.result; types = (form_types p gives at (Block b) r.types).2; room = omega (arith, r.room) }
 
-  pub block_does : {s m t : Sym} (at : Spot) (b : Stms) (k : ℕ) → FormReady p I n gives at s (Block b) → k ≡ length s.cells.items → BlockDoes p I n gives b s m → Became p 0 m t (λ v. cut_to k) → FormDoes p I n gives at (Block b) s t
+  pub block_does : {s m t : Sym} (at : Spot) (b : Stms) (k : ℕ) → FormReady p W n gives at s (Block b) → k ≡ length s.cells.items → BlockDoes p W n gives b s m → Became p 0 m t (λ v. cut_to k) → FormDoes p W n gives at (Block b) s t
   block_does {s} {m} {t} at b k r e y z =
       let z' : Became p 0 m t (λ v. cut_to (length s.cells.items)) = subst (λ j. Became p 0 m t (λ v. cut_to j)) e z in
-      runs_as p (Duties p I) gives (scoped_runs p (Duties p I) gives r.fits y z') (λ v u. refl) (omega arith) (omega arith)
+      runs_as p W.duties gives (scoped_runs p W.duties gives r.fits y z') (λ v u. refl) (omega arith) (omega arith)
 
   -- ---- the statements of a block
-  pub block_none : (s : Sym) → IsState p s → BlockDoes p I n gives (stmts_view []) s s
-  block_none s h = skip_runs p (Duties p I) gives s h
+  pub block_none : (s : Sym) → IsState p s → BlockDoes p W n gives (stmts_view []) s s
+  block_none s h = skip_runs p W.duties gives s h
 
   module _ (xs : List rust.Stmt) (k : ℕ) (x : rust.Stmt) (h : k < length xs) (e : x ≡ get_or xs k x) where
-    weight_more : weight_of_block p I n gives (stmts_view (take (k + 1) xs)) ≡ weight_of_block p I n gives (stmts_view (take k xs)) + weight_of p I n gives (stmt_view x)
-    weight_more = statements_more p (λ w b. w) (weight_in p I n) (placed_weight p I) gives xs k x h ∙ ap (λ z. weight_of_block p I n gives (stmts_view (take k xs)) + weight_of p I n gives (stmt_view z)) (sym e)
+    weight_more : weight_of_block p W n gives (stmts_view (take (k + 1) xs)) ≡ weight_of_block p W n gives (stmts_view (take k xs)) + weight_of p W n gives (stmt_view x)
+    weight_more = statements_more p (λ w b. w) (weight_in p W.placed n) (placed_weight p W.placed) gives xs k x h ∙ ap (λ z. weight_of_block p W n gives (stmts_view (take k xs)) + weight_of p W n gives (stmt_view z)) (sym e)
 
-    bits_more : bits_of_block p I n gives (stmts_view (take (k + 1) xs)) ≡ bits_of_block p I n gives (stmts_view (take k xs)) + bits_of p I n gives (stmt_view x)
-    bits_more = statements_more p (λ w b. b) (bits_in p n) nowhere gives xs k x h ∙ ap (λ z. bits_of_block p I n gives (stmts_view (take k xs)) + bits_of p I n gives (stmt_view z)) (sym e)
+    bits_more : bits_of_block p W n gives (stmts_view (take (k + 1) xs)) ≡ bits_of_block p W n gives (stmts_view (take k xs)) + bits_of p W n gives (stmt_view x)
+    bits_more = statements_more p (λ w b. b) (bits_in p n) nowhere gives xs k x h ∙ ap (λ z. bits_of_block p W n gives (stmts_view (take k xs)) + bits_of p W n gives (stmt_view z)) (sym e)
 
-    weight_within : weight_of_block p I n gives (stmts_view (take (k + 1) xs)) ≤ weight_of_block p I n gives (stmts_view xs)
-    weight_within = statements_within p (λ w b. w) (weight_in p I n) (placed_weight p I) gives xs (k + 1)
+    weight_within : weight_of_block p W n gives (stmts_view (take (k + 1) xs)) ≤ weight_of_block p W n gives (stmts_view xs)
+    weight_within = statements_within p (λ w b. w) (weight_in p W.placed n) (placed_weight p W.placed) gives xs (k + 1)
 
-    bits_within : bits_of_block p I n gives (stmts_view (take (k + 1) xs)) ≤ bits_of_block p I n gives (stmts_view xs)
+    bits_within : bits_of_block p W n gives (stmts_view (take (k + 1) xs)) ≤ bits_of_block p W n gives (stmts_view xs)
     bits_within = statements_within p (λ w b. b) (bits_in p n) nowhere gives xs (k + 1)
 
     -- a statement weighs no more than its block
-    pub block_part : weight_of p I n gives (stmt_view x) ≤ weight_of_block p I n gives (stmts_view xs)
+    pub block_part : weight_of p W n gives (stmt_view x) ≤ weight_of_block p W n gives (stmts_view xs)
     block_part = omega (arith, weight_more, weight_within)
 
-    pub block_next : {s m : Sym} → BlockReady p I n gives s (stmts_view xs) → BlockDoes p I n gives (stmts_view (take k xs)) s m → Ready p I n gives m (stmt_view x)
+    pub block_next : {s m : Sym} → BlockReady p W n gives s (stmts_view xs) → BlockDoes p W n gives (stmts_view (take k xs)) s m → Ready p W n gives m (stmt_view x)
     block_next {s} {m} r y = record {
       fits = y.fits;
       result = y.result ∙ r.result;
@@ -141,38 +140,38 @@ module _ (p : Program) (I : List Placed) (n : ℕ) (gives : Option IntType) wher
       room = omega (arith, (longer_by y.added).1, weight_more, bits_more, weight_within, bits_within, r.room);
     }
 
-    pub block_more : {s m t : Sym} → BlockDoes p I n gives (stmts_view (take k xs)) s m → Does p I n gives (stmt_view x) m t → BlockDoes p I n gives (stmts_view (take (k + 1) xs)) s t
+    pub block_more : {s m t : Sym} → BlockDoes p W n gives (stmts_view (take k xs)) s m → Does p W n gives (stmt_view x) m t → BlockDoes p W n gives (stmts_view (take (k + 1) xs)) s t
     block_more {s} {m} {t} y z =
-        runs_as p (Duties p I) gives
-        (runs_then p (Duties p I) gives (weight_of_block p I n gives (stmts_view (take (k + 1) xs))) (bits_of_block p I n gives (stmts_view (take (k + 1) xs))) y z (omega (arith, weight_more)) (omega (arith, bits_more)))
+        runs_as p W.duties gives
+        (runs_then p W.duties gives (weight_of_block p W n gives (stmts_view (take (k + 1) xs))) (bits_of_block p W n gives (stmts_view (take (k + 1) xs))) y z (omega (arith, weight_more)) (omega (arith, bits_more)))
         (λ v u.
-        ap (λ w. bind (execs p (havoc p I) (calls p I n) gives (stmts_view (take k xs)) u) (go_on (exec p (havoc p I) (calls p I n) gives (stmt_view w)))) e ∙ execs_more p I (calls p I n) gives xs k x h u)
+        ap (λ w. bind (execs p (judged p W) (calls p W n) gives (stmts_view (take k xs)) true u) (go_on (exec p (judged p W) (calls p W n) gives (stmt_view w) true))) e ∙ execs_more p W (calls p W n) gives xs k x h u)
         (omega arith) (omega arith)
 
   -- ---- `else`
-  pub else_ready : {s : Sym} (b : Stm) → ElseReady p I n gives s (OrElse b) → Ready p I n gives s b
+  pub else_ready : {s : Sym} (b : Stm) → ElseReady p W n gives s (OrElse b) → Ready p W n gives s b
   else_ready b r = record { fits = r.fits; result = r.result; types = r.types; room = r.room }
 
-  pub else_does : {s t : Sym} (b : Stm) → ScopeDoes p I n gives b s t → ElseDoes p I n gives (OrElse b) s t
+  pub else_does : {s t : Sym} (b : Stm) → ScopeDoes p W n gives b s t → ElseDoes p W n gives (OrElse b) s t
   else_does b x = record { runs = x.runs; level = x.level }
 
-  pub no_else : (s : Sym) → IsState p s → ElseDoes p I n gives NoElse s s
-  no_else s h = record { runs = skip_runs p (Duties p I) gives s h; level = refl }
+  pub no_else : (s : Sym) → IsState p s → ElseDoes p W n gives NoElse s s
+  no_else s h = record { runs = skip_runs p W.duties gives s h; level = refl }
 
   -- ---- `if`
-  module _ {o : Sym} (at : Spot) (test : Exp) (yes : Stm) (no : Else) (r : FormReady p I n gives at o (If test yes no)) where
+  module _ {o : Sym} (at : Spot) (test : Exp) (yes : Stm) (no : Else) (r : FormReady p W n gives at o (If test yes no)) where
     if_types : IsTrue (has_value test) × IsTrue (is_typed p test) × IsTrue (every_statement (statement_fits p gives) yes) × IsTrue (every_statement_else (statement_fits p gives) no)
     if_types =
         let t = form_types p gives at (If test yes no) r.types in
         let q = both (every_statement (statement_fits p gives) yes) (every_statement_else (statement_fits p gives) no) t.2 in
         (t.0, only_one (is_typed p) test t.1, q.0, q.1)
 
-    pub choice_ready : ControlReady p I n o test
+    pub choice_ready : ControlReady p W n o test
     choice_ready = record { fits = r.fits; types = if_types.1; value = if_types.0; room = omega (arith, r.room) }
 
-    module _ {a : Sym} {bit : Bit} (x : Decides p I n at test o a bit) where
+    module _ {a : Sym} {bit : Bit} (x : Decides p W n at test o a bit) where
       abbrev tested_most : ℕ
-      tested_most = length o.net + (weight_of_control p I n test + bits_of_control p I n test)
+      tested_most = length o.net + (weight_of_control p W n test + bits_of_control p W n test)
 
       tested_stage : Stage p gives tested_most a
       tested_stage = stage_follows p gives (stage p gives o r.fits r.result) x.follows
@@ -187,12 +186,12 @@ module _ (p : Program) (I : List Placed) (n : ℕ) (gives : Option IntType) wher
         yes_stage : Stage p gives yes_most b
         yes_stage = stage_turned p gives tested_stage y
 
-        pub yes_ready : Ready p I n gives b yes
+        pub yes_ready : Ready p W n gives b yes
         yes_ready = record { fits = yes_stage.fits; result = yes_stage.result; types = if_types.2; room = omega (arith, yes_stage.few, r.room) }
 
-        module _ {c : Sym} (z : ScopeDoes p I n gives yes b c) where
+        module _ {c : Sym} (z : ScopeDoes p W n gives yes b c) where
           abbrev done_most : ℕ
-          done_most = yes_most + (weight_of p I n gives yes + bits_of p I n gives yes)
+          done_most = yes_most + (weight_of p W n gives yes + bits_of p W n gives yes)
 
           done_stage : Stage p gives done_most c
           done_stage = stage_runs p gives yes_stage z.runs
@@ -208,10 +207,10 @@ module _ (p : Program) (I : List Placed) (n : ℕ) (gives : Option IntType) wher
             no_stage : Stage p gives (done_most + (1 + 0)) d
             no_stage = stage_turned p gives done_stage w
 
-            pub no_ready : ElseReady p I n gives d no
+            pub no_ready : ElseReady p W n gives d no
             no_ready = record { fits = no_stage.fits; result = no_stage.result; types = if_types.3; room = omega (arith, no_stage.few, r.room) }
 
-            module _ {e : Sym} (u : ElseDoes p I n gives no d e) where
+            module _ {e : Sym} (u : ElseDoes p W n gives no d e) where
               pub last_room : length e.net < 2 ^ 28
               last_room = omega (arith, (stage_runs p gives no_stage u.runs).few, r.room)
 
@@ -219,19 +218,19 @@ module _ (p : Program) (I : List Placed) (n : ℕ) (gives : Option IntType) wher
               last_in k q = in_added u.runs.added k (in_added w.added k q)
 
 -- ---- `return` with a value
-pub no_value : (p : Program) (I : List Placed) (n : ℕ) (at : Spot) (s : Sym) (e : Exp) → FormReady p I n None at s (Return (Some e)) → ⊥
-no_value p I n at s e r = neither (form_types p None at (Return (Some e)) r.types).0
+pub no_value : (p : Program) (W : Mode) (n : ℕ) (at : Spot) (s : Sym) (e : Exp) → FormReady p W n None at s (Return (Some e)) → ⊥
+no_value p W n at s e r = neither (form_types p None at (Return (Some e)) r.types).0
 
-module _ (p : Program) (I : List Placed) (n : ℕ) (to : IntType) {o : Sym} (at : Spot) (e : Exp) (r : FormReady p I n (Some to) at o (Return (Some e))) where
+module _ (p : Program) (W : Mode) (n : ℕ) (to : IntType) {o : Sym} (at : Spot) (e : Exp) (r : FormReady p W n (Some to) at o (Return (Some e))) where
   value_type : type_if e ≡ Some (type_of e)
   value_type = has_one e (form_types p (Some to) at (Return (Some e)) r.types).0
 
-  pub value_ready : FullReady p I n o e
+  pub value_ready : FullReady p W n o e
   value_ready = record { fits = r.fits; types = only_one (is_typed p) e (form_types p (Some to) at (Return (Some e)) r.types).1; room = omega (arith, r.room) }
 
-  module _ {a : Sym} {xs : List Bit} (x : FullGives p I n at Used e o a xs) (from : IntType) (ef : from ≡ type_of e) where
+  module _ {a : Sym} {xs : List Bit} (x : FullGives p W n at Used e o a xs) (from : IntType) (ef : from ≡ type_of e) where
     pub value_in : AreTyped p.model from a.net xs
-    value_in = rw ef (full_in p I n at Used e (type_of e) value_type x)
+    value_in = rw ef (full_in p W n at Used e (type_of e) value_type x)
 
     pub value_room : length a.net < 2 ^ 28
     value_room = omega (arith, (longer_by x.follows.added).1, r.room)
@@ -246,10 +245,10 @@ module _ (p : Program) (I : List Placed) (n : ℕ) (to : IntType) {o : Sym} (at 
       pub give_type : b.result ≡ to
       give_type = y.turned.result ∙ x.follows.result ∙ r.result
 
-      pub give_does : {c : Sym} → Became p (4 * width_of p.model to + 1) b c (λ v. giving (typed p.model to v b.net ys)) → FormDoes p I n (Some to) at (Return (Some e)) o c
+      pub give_does : {c : Sym} → Became p (4 * width_of p.model to + 1) b c (λ v. giving (typed p.model to v b.net ys)) → FormDoes p W n (Some to) at (Return (Some e)) o c
       give_does z =
           let w : (ℕ → Bool) → ℤ = λ v. typed p.model to v b.net ys in
-          return_runs p I (Duties p I) (Some to) (calls p I n) (form_glue + weight_of_form p I n (Some to) at (Return (Some e))) (bits_of_form p I n (Some to) at (Return (Some e))) at e to w refl x.follows
-          (λ v z q. ap (fit p.model to) (number_as p I n a xs e (type_of e) value_type v z q) ∙ sym (own.is v))
-          (quiet_runs p (Duties p I) (Some to) (conversion_cost p.model (type_of e) to + (4 * width_of p.model to + 1)) own.turned (give_runs p (Duties p I) (Some to) w z) (omega arith))
+          return_runs p W W.duties (Some to) (calls p W n) true (form_glue + weight_of_form p W n (Some to) at (Return (Some e))) (bits_of_form p W n (Some to) at (Return (Some e))) at e to w refl x.follows
+          (λ v z q. ap (fit p.model to) (number_as p W n a xs e (type_of e) value_type v z q) ∙ sym (own.is v))
+          (quiet_runs p W.duties (Some to) (conversion_cost p.model (type_of e) to + (4 * width_of p.model to + 1)) own.turned (give_runs p W.duties (Some to) to w refl z) (omega arith))
           (omega (arith, conversion_costs p.model (type_of e) to)) (omega arith)

@@ -6,9 +6,9 @@ use Rattle.c_core.specs.Parts.{type_of as type_if, own_fulls, every_statement, e
 use Rattle.c_core.specs.Typing.{is_typed, form_fits, statement_fits}
 use Rattle.c_core.specs.declared.number.IntType.{IntType}
 use Rattle.c_core.specs.declared.number.Spot.{Spot}
-use Rattle.c_meaning.specs.Duties.{Placed}
 use Rattle.c_meaning.specs.Meaning.{Use, Used}
 use Rattle.c_meaning.proofs.TypeFacts.{both}
+use Rattle.sym_meaning.specs.Mode.{Mode}
 use Rattle.circuits.specs.declared.net.Bit.{Bit}
 use Rattle.circuits.specs.Numbers.{typed, AreTyped}
 use Rattle.sym_state.specs.declared.state.Sym.{Sym}
@@ -28,9 +28,9 @@ module _ (p : Program) (gives : Option IntType) where
       let b = both (form_fits p gives f) (list_all (is_typed p) (own_fulls f)) a.0 in
       (b.0, b.1, a.1)
 
-module _ (p : Program) (I : List Placed) (n : ℕ) where
+module _ (p : Program) (W : Mode) (n : ℕ) where
   -- the bits of a value that is used
-  pub full_in : {s m : Sym} {bits : List Bit} (at : Spot) (want : Use) (e : Exp) (t : IntType) → type_if e ≡ Some t → FullGives p I n at want e s m bits → AreTyped p.model t m.net bits
+  pub full_in : {s m : Sym} {bits : List Bit} (at : Spot) (want : Use) (e : Exp) (t : IntType) → type_if e ≡ Some t → FullGives p W n at want e s m bits → AreTyped p.model t m.net bits
   full_in {m = m} {bits = bits} at want e t h x = subst (λ z. AreOf p.model z m.net bits) h x.bits_in
 
   -- and its number

@@ -16,3 +16,4 @@ mod Switchable
 mod Switched
 mod Turns
 mod Wholly
+mod Untold

@@ -11,11 +11,13 @@ use Rattle.c_core.specs.declared.number.IntType.{IntType}
 use Rattle.c_core.specs.declared.number.Spot.{Spot}
 use Rattle.c_core.specs.declared.tree.Callee.TheVariants.{Defined}
 use Rattle.c_meaning.specs.Acts.{Res, Stop, bind, scoped, given, cut}
-use Rattle.c_meaning.specs.Duties.{Placed, Duties}
 use Rattle.c_meaning.specs.Eval.{is_used}
 use Rattle.c_meaning.specs.Exec.{with_params, call_of, run_in}
 use Rattle.c_meaning.specs.Fitting.{calls_in}
-use Rattle.c_meaning.specs.Havoc.{Stopped, Passes, Left, cells_left, with_cells_left, havoc, returned, stop}
+use Rattle.c_meaning.specs.Havoc.{Stopped, Passes}
+use Rattle.sym_meaning.specs.Mode.{JudgedState, cells_judged, with_cells_judged, Mode}
+use Rattle.c_meaning.specs.declared.run.Event.TheVariants.{Enter}
+use Rattle.sym_meaning.specs.Judged.{judged, returned, stop, tell}
 use Rattle.c_meaning.specs.Meaning.{AParameter, Use, Used, Unused, Site}
 use Rattle.c_meaning.specs.Objects.{type_of, type_or_int, type_of_object}
 use Rattle.c_meaning.proofs.TypeFacts.{both, neither, some_same, one_result}
@@ -24,7 +26,9 @@ use Rattle.circuits.specs.declared.net.NetNode.{NetNode}
 use Rattle.circuits.specs.Numbers.{typed, AreTyped}
 use Rattle.sym_state.specs.declared.state.Sym.{Sym}
 use Rattle.sym_state.specs.declared.state.Around.{Around}
-use Rattle.sym_state.specs.Standing.{stand}
+use Rattle.sym_state.specs.Standing.{stand, Turned}
+use Rattle.sym_state.specs.Telling.{telling}
+use Rattle.sym_state.proofs.Telling.{told_follows}
 use Rattle.sym_state.specs.Following.{left_of, Deed, Came, Follows, AreOf, IsNumber}
 use Rattle.sym_state.proofs.Nets.{longer_by}
 use Rattle.sym_state.proofs.Composed.{follows_then, follows_as}
@@ -84,15 +88,15 @@ set_passed p (o ∷ os) (x ∷ xs) (MoreExp y es) e = ap₂ (λ a b. stored p.mo
 
 -- ---- runs that end before the body
 -- it ends, and fails nothing, with nothing drawn
-record EndsAlike {A : Type 0} (r : Res Stopped Left A) (s : Left) : Type 0 where
-  state : Left
+record EndsAlike {A : Type 0} (r : Res Stopped JudgedState A) (s : JudgedState) : Type 0 where
+  state : JudgedState
   is : r ≡ Stop Passes state
   values : state.values ≡ s.values
   draws : state.draws ≡ s.draws
 
-ended_follows : {A B : Type 0} {i j k l : ℕ} {a b : Sym} {S : (ℕ → Bool) → A → Type 0} {T : (ℕ → Bool) → B → Type 0} {deed : Deed B} (p : Program) (I : List Placed) → Follows (Duties p I) p i j a b S (λ v. stop p I Passes)
-    → ((v : ℕ → Bool) (s : Left) → EndsAlike (deed v s) s) → i ≤ k → j ≤ l → Follows (Duties p I) p k l a b T deed
-ended_follows {a = a} {b = b} {T = T} p I x e h q = record {
+ended_follows : {A B : Type 0} {i j k l : ℕ} {a b : Sym} {S : (ℕ → Bool) → A → Type 0} {T : (ℕ → Bool) → B → Type 0} {deed : Deed B} (p : Program) (W : Mode) → Follows W.duties p i j a b S (λ v. stop Passes)
+    → ((v : ℕ → Bool) (s : JudgedState) → EndsAlike (deed v s) s) → i ≤ k → j ≤ l → Follows W.duties p k l a b T deed
+ended_follows {a = a} {b = b} {T = T} p W x e h q = record {
   fits = x.fits;
   added = record { more = x.added.more; is = x.added.is; gates = omega (arith, x.added.gates, h); feeds = omega (arith, x.added.feeds, q); few = omega (arith, x.added.few, h, q) };
   level = x.level;
@@ -101,59 +105,59 @@ ended_follows {a = a} {b = b} {T = T} p I x e h q = record {
   does = λ v here vs rest t.
       let y = x.does v here vs rest t in
       let z = e v (left_of (stand p v a) vs) in
-      subst (λ r. Came (Duties p I) (T v) (stand p v b) rest r) (sym z.is) (y.0, z.values ∙ y.1, z.draws ∙ y.2);
+      subst (λ r. Came W.duties (T v) (stand p v b) rest r) (sym z.is) (y.0, z.values ∙ y.1, z.draws ∙ y.2);
 }
 
-module _ (p : Program) (I : List Placed) where
-  params_stop : (os : List ℕ) (vs : List (ℤ × IntType)) (s : Left) → EndsAlike (with_params p (havoc p I) os vs (λ t. Stop Passes t) s) s
+module _ (p : Program) (W : Mode) where
+  params_stop : (os : List ℕ) (vs : List (ℤ × IntType)) (s : JudgedState) → EndsAlike (with_params p (judged p W) os vs (λ may t. Stop Passes t) true s) s
   params_stop [] vs s = record { state = s; is = refl; values = refl; draws = refl }
-  params_stop (o ∷ os) [] s = let h = params_stop os [] (declared p I o s) in record { state = h.state; is = h.is; values = h.values; draws = h.draws }
-  params_stop (o ∷ os) (v ∷ vs) s = let h = params_stop os vs (set_one p I o v s) in record { state = h.state; is = h.is; values = h.values; draws = h.draws }
+  params_stop (o ∷ os) [] s = let h = params_stop os [] (declared p W o s) in record { state = h.state; is = h.is; values = h.values; draws = h.draws }
+  params_stop (o ∷ os) (v ∷ vs) s = let h = params_stop os vs (set_one p W o v s) in record { state = h.state; is = h.is; values = h.values; draws = h.draws }
 
-  deep_stops : (site : Site) (o : Option Function) (vs : List (ℤ × IntType)) (s : Left) → EndsAlike (call_of p (havoc p I) (run_in p (havoc p I) zero) site o vs s) s
+  deep_stops : (site : Site) (o : Option Function) (vs : List (ℤ × IntType)) (s : JudgedState) → EndsAlike (call_of p (judged p W) (run_in p (judged p W) zero) site o vs s) s
   deep_stops site None vs s = record { state = s; is = refl; values = refl; draws = refl }
   deep_stops site (Some fn) vs s =
       let h = params_stop fn.params vs s in
       record {
         state = h.state;
-        is = ap (λ r. bind r (λ u t. bind (scoped Stopped Left cells_left with_cells_left (with_params p (havoc p I) fn.params vs (run_in p (havoc p I) zero fn)) t) (λ flow. returned p I site (given flow)))) (no_ticks p I AParameter (length fn.params) s)
-            ∙ ap (λ r. bind (cut Stopped Left cells_left with_cells_left (length s.cells) r) (λ flow. returned p I site (given flow))) h.is;
+        is = ap (λ r. bind r (λ u t. bind (scoped Stopped JudgedState cells_judged with_cells_judged (with_params p (judged p W) fn.params vs (run_in p (judged p W) zero fn) true) t) (λ flow. returned p W site (given flow)))) (no_ticks p W AParameter (length fn.params) s)
+            ∙ ap (λ r. bind (cut Stopped JudgedState cells_judged with_cells_judged (length s.cells) r) (λ flow. returned p W site (given flow))) h.is;
         values = h.values;
         draws = h.draws;
       }
 
-  missing_stops : (n : ℕ) (site : Site) (o : Option Function) (vs : List (ℤ × IntType)) (s : Left) → o ≡ None → EndsAlike (call_of p (havoc p I) (run_in p (havoc p I) n) site o vs s) s
-  missing_stops n site o vs s e = record { state = s; is = ap (λ o. call_of p (havoc p I) (run_in p (havoc p I) n) site o vs s) e; values = refl; draws = refl }
+  missing_stops : (n : ℕ) (site : Site) (o : Option Function) (vs : List (ℤ × IntType)) (s : JudgedState) → o ≡ None → EndsAlike (call_of p (judged p W) (run_in p (judged p W) n) site o vs s) s
+  missing_stops n site o vs s e = record { state = s; is = ap (λ o. call_of p (judged p W) (run_in p (judged p W) n) site o vs s) e; values = refl; draws = refl }
 
   module _ (n f : ℕ) (needed : Bool) (ty : Option IntType) (xs : List Argument) {s r : Sym} {bits : List Bit} (x : Ended p ty s r bits) where
-    stopped_called : ((site : Site) (vs : List (ℤ × IntType)) (t : Left) → EndsAlike (calls_in p (havoc p I) n site f vs t) t) → Called p I n f needed ty xs s r bits
-    stopped_called h = record { bits_in = x.bits_in; follows = λ site e. ended_follows p I (x.follows I) (λ v t. h site (values_at p v s.net xs) t) (omega arith) (omega arith) }
+    stopped_called : ((site : Site) (vs : List (ℤ × IntType)) (t : JudgedState) → EndsAlike (calls_in p (judged p W) n site f vs t) t) → Called p W n f needed ty xs s r bits
+    stopped_called h = record { bits_in = x.bits_in; follows = λ site e. ended_follows p W (x.follows W) (λ v t. h site (values_at p v s.net xs) t) (omega arith) (omega arith) }
 
     -- no call is so deep
-    deep_called : n ≡ 0 → Called p I n f needed ty xs s r bits
-    deep_called e = stopped_called (λ site vs t. subst (λ k. EndsAlike (calls_in p (havoc p I) k site f vs t) t) (sym e) (deep_stops site (slice_get p.functions f) vs t))
+    deep_called : n ≡ 0 → Called p W n f needed ty xs s r bits
+    deep_called e = stopped_called (λ site vs t. subst (λ k. EndsAlike (calls_in p (judged p W) k site f vs t) t) (sym e) (deep_stops site (slice_get p.functions f) vs t))
 
     -- there is no such function
-    missing_called : slice_get p.functions f ≡ None → Called p I n f needed ty xs s r bits
+    missing_called : slice_get p.functions f ≡ None → Called p W n f needed ty xs s r bits
     missing_called e = stopped_called (λ site vs t. missing_stops n site (slice_get p.functions f) vs t e)
 
-  pub ended_called : (n f : ℕ) (needed : Bool) (ty : Option IntType) (xs : List Argument) {s r : Sym} {bits : List Bit} → Ended p ty s r bits → (0 < n → slice_get p.functions f ≡ None) → Called p I n f needed ty xs s r bits
+  pub ended_called : (n f : ℕ) (needed : Bool) (ty : Option IntType) (xs : List Argument) {s r : Sym} {bits : List Bit} → Ended p ty s r bits → (0 < n → slice_get p.functions f ≡ None) → Called p W n f needed ty xs s r bits
   ended_called zero f needed ty xs x h = deep_called zero f needed ty xs x refl
   ended_called (suc n) f needed ty xs x h = missing_called (suc n) f needed ty xs x (h (omega arith))
 
 -- ---- the body is reached
-module _ (p : Program) (I : List Placed) (n m f : ℕ) (needed : Bool) (ty : Option IntType) (fn : Function) (s : Sym) (xs : List Argument) (e : n ≡ suc m) (q : slice_get p.functions f ≡ Some fn) (h : CallReady p I n f needed ty s xs) where
-  same_weight : weight_of_call p I n f xs ≡ call_weight + weight_of_run p I m fn xs
-  same_weight = ap (λ k. weight_of_call p I k f xs) e ∙ ap (λ o. call_weight + (set_cost p (params_of o) xs + function_of p (weighing (weight_in p I m)) (placed_weight p I) o)) q
+module _ (p : Program) (W : Mode) (n m f : ℕ) (needed : Bool) (ty : Option IntType) (fn : Function) (s : Sym) (xs : List Argument) (e : n ≡ suc m) (q : slice_get p.functions f ≡ Some fn) (h : CallReady p W n f needed ty s xs) where
+  same_weight : weight_of_call p W n f xs ≡ call_weight + weight_of_run p W m fn xs
+  same_weight = ap (λ k. weight_of_call p W k f xs) e ∙ ap (λ o. call_weight + (set_cost p (params_of o) xs + function_of p (weighing (weight_in p W.placed m)) (placed_weight p W.placed) o)) q
 
-  same_bits : bits_of_call p I n f ≡ bits_of_run p I m fn
+  same_bits : bits_of_call p W n f ≡ bits_of_run p W m fn
   same_bits = ap (λ k. bits_in p k f) e ∙ ap (λ o. function_of p (drawing (bits_in p m)) nowhere o) q
 
   -- the body weighs what the function does, unfolded once more
-  pub found_weight : weight_in p I n f ≡ function_body p (weighing (weight_in p I m)) (placed_weight p I) fn.result fn.body
-  found_weight = ap (λ k. weight_in p I k f) e ∙ ap (λ o. function_of p (weighing (weight_in p I m)) (placed_weight p I) o) q
+  pub found_weight : weight_in p W.placed n f ≡ function_body p (weighing (weight_in p W.placed m)) (placed_weight p W.placed) fn.result fn.body
+  found_weight = ap (λ k. weight_in p W.placed k f) e ∙ ap (λ o. function_of p (weighing (weight_in p W.placed m)) (placed_weight p W.placed) o) q
 
-  pub found_ready : IsTrue (types_fit p) → RunReady p I m needed fn s xs
+  pub found_ready : IsTrue (types_fit p) → RunReady p W m needed fn s xs
   found_ready t = record {
     fits = h.fits;
     arguments = h.arguments;
@@ -162,24 +166,24 @@ module _ (p : Program) (I : List Placed) (n m f : ℕ) (needed : Bool) (ty : Opt
     room = omega (arith, same_weight, same_bits, h.room);
   }
 
-  pub found_called : {r : Sym} {bits : List Bit} → HasRun p I m needed fn xs s r bits → Called p I n f needed ty xs s r bits
+  pub found_called : {r : Sym} {bits : List Bit} → HasRun p W m needed fn xs s r bits → Called p W n f needed ty xs s r bits
   found_called {r} {bits} x =
       let k = h.result fn q in
       record {
         bits_in = are_of p.model ty r.net bits (subst (λ t. AreTyped p.model (type_or_int t) r.net bits) k x.bits_in);
         follows = λ site en.
-            follows_as p (Duties p I) (call_follows p I (Duties p I) (run_in p (havoc p I) (suc m)) site fn (λ v. values_at p v s.net xs) (x.follows site en))
+            follows_as p W.duties (call_follows p W W.duties (run_in p (judged p W) (suc m)) site fn (λ v. values_at p v s.net xs) (x.follows site en))
             (λ v z w. wanted_of p.model needed ty r.net bits v z (subst (λ t. is_value needed (typed p.model (type_or_int t) v r.net bits) z) k w))
-            (λ v t. ap₂ (λ k o. call_of p (havoc p I) (run_in p (havoc p I) k) site o (values_at p v s.net xs) t) (sym e) (sym q))
+            (λ v t. ap₂ (λ k o. call_of p (judged p W) (run_in p (judged p W) k) site o (values_at p v s.net xs) t) (sym e) (sym q))
             (omega (arith, same_weight)) (omega (arith, same_bits));
       }
 
 -- ---- the whole call
-module _ (p : Program) (I : List Placed) (n : ℕ) (at : Around) (want : Use) (spot close : Spot) (ty : Option IntType) (f : ℕ) (es : Exps) {s : Sym} (h : Ready p I n at s (Expr spot ty (Call (Defined f) es close))) where
+module _ (p : Program) (W : Mode) (n : ℕ) (at : Around) (want : Use) (spot close : Spot) (ty : Option IntType) (f : ℕ) (es : Exps) {s : Sym} (h : Ready p W n at s (Expr spot ty (Call (Defined f) es close))) where
   types_of_call : IsTrue (is_call_of ty es (slice_get p.functions f)) × IsTrue (every_argument (exp_fits p) es)
   types_of_call = both (is_call_of ty es (slice_get p.functions f)) (every_argument (exp_fits p) es) h.types
 
-  pub arguments_ready : AllReady p I n at s es
+  pub arguments_ready : AllReady p W n at s es
   arguments_ready = record {
     fits = h.fits;
     types = types_of_call.1;
@@ -188,11 +192,11 @@ module _ (p : Program) (I : List Placed) (n : ℕ) (at : Around) (want : Use) (s
     room = omega (arith, h.room);
   }
 
-  module _ {m : Sym} {xs : List Argument} (needed : Bool) (en : needed ≡ (is_used want && is_some ty)) (x : AllValues p I n at es s m xs) where
+  module _ {m : Sym} {xs : List Argument} (needed : Bool) (en : needed ≡ (is_used want && is_some ty)) (x : AllValues p W n at es s m xs) where
     same_passed : set_cost p (params_of (slice_get p.functions f)) xs ≡ passed p (params_of (slice_get p.functions f)) es
     same_passed = set_passed p (params_of (slice_get p.functions f)) xs es x.types
 
-    pub call_ready : CallReady p I n f needed ty m xs
+    pub call_ready : CallReady p W n f needed ty m xs
     call_ready = record {
       fits = x.follows.fits;
       arguments = x.bits_in;
@@ -201,13 +205,14 @@ module _ (p : Program) (I : List Placed) (n : ℕ) (at : Around) (want : Use) (s
       room = omega (arith, same_passed, h.room, (longer_by x.follows.added).1);
     }
 
-    pub call_values : {r : Sym} {bits : List Bit} → Called p I n f needed ty xs m r bits → Values p I n at want (Expr spot ty (Call (Defined f) es close)) s r bits
-    call_values {r} {bits} y =
+    pub call_values : {r : Sym} {bits : List Bit} → Turned p 0 0 m m (λ v. telling W (Enter close)) → Called p W n f needed ty xs m r bits → Values p W n at want (Expr spot ty (Call (Defined f) es close)) s r bits
+    call_values {r} {bits} ev y =
         let whole = Expr spot ty (Call (Defined f) es close) in
         let site : Site = record { spot = spot; close = close; needed = is_used want && is_some ty } in
         record {
           bits_in = y.bits_in;
-          follows = follows_as p (Duties p I) (follows_then p (Duties p I) (weight_of p I n whole) (bits_of p I n whole) (λ v vs. calls_in p (havoc p I) n site f vs) x.follows (y.follows site (sym en))
-              (λ v vs q t. ap (λ z. calls_in p (havoc p I) n site f z t) q) (omega (arith, same_passed)) (omega arith))
+          follows = follows_as p W.duties (follows_then p W.duties (weight_of p W n whole) (bits_of p W n whole) (λ v vs s. bind (tell p W (Enter close) s) (λ u. calls_in p (judged p W) n site f vs)) x.follows
+              (follows_then p W.duties (weight_of_call p W n f xs) (bits_of_call p W n f) (λ v u. calls_in p (judged p W) n site f (values_at p v m.net xs)) (told_follows p W (λ v. Enter close) ev) (y.follows site (sym en)) (λ v u q t. refl) (omega arith) (omega arith))
+              (λ v vs q t. ap (λ z. bind (tell p W (Enter close) t) (λ u. calls_in p (judged p W) n site f z)) q) (omega (arith, same_passed)) (omega arith))
               (λ v z w. wanted_at p.model want ty r.net bits v z (λ u. w (en ∙ u))) (λ v t. refl) (omega arith) (omega arith);
         }

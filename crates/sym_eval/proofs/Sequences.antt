@@ -17,9 +17,10 @@ use Rattle.c_core.specs.declared.tree.Stmt.{Stmt}
 use Rattle.c_meaning.specs.Acts.{Res, Go, Stop, Flow, Next, Broken, Again, Gave, bind, go_on}
 use Rattle.c_meaning.specs.Acts as acts
 use Rattle.c_meaning.specs.Cells.{cells_from, put}
-use Rattle.c_meaning.specs.Duties.{Placed}
 use Rattle.c_meaning.specs.Exec.{full, declare, initial, initials, row_initials, exec, execs}
-use Rattle.c_meaning.specs.Havoc.{Stopped, Left, cells_left, with_cells_left, havoc}
+use Rattle.c_meaning.specs.Havoc.{Stopped}
+use Rattle.sym_meaning.specs.Mode.{JudgedState, cells_judged, with_cells_judged, Mode}
+use Rattle.sym_meaning.specs.Judged.{judged}
 use Rattle.c_meaning.specs.Meaning.{Calls, ACell, Used}
 use Rattle.c_meaning.specs.Objects.{size_of_object, columns_of_object, type_of_object}
 use Rattle.c_meaning.proofs.TypeFacts.{both, of_both}
@@ -30,7 +31,7 @@ use Rattle.sym_weight.specs.Sum as sum
 
 -- ---- results of parts
 -- a statement, and then nothing
-pub go_end : (r : Res Stopped Left Flow) → bind r (go_on (λ s. Go Next s)) ≡ r
+pub go_end : (r : Res Stopped JudgedState Flow) → bind r (go_on (λ s. Go Next s)) ≡ r
 go_end (Go Next s) = refl
 go_end (Go Broken s) = refl
 go_end (Go Again s) = refl
@@ -38,7 +39,7 @@ go_end (Go (Gave v) s) = refl
 go_end (Stop e s) = refl
 
 -- three statements one after another
-pub go_both : (r : Res Stopped Left Flow) (f g : Left → Res Stopped Left Flow) → bind r (go_on (λ s. bind (f s) (go_on g))) ≡ bind (bind r (go_on f)) (go_on g)
+pub go_both : (r : Res Stopped JudgedState Flow) (f g : JudgedState → Res Stopped JudgedState Flow) → bind r (go_on (λ s. bind (f s) (go_on g))) ≡ bind (bind r (go_on f)) (go_on g)
 go_both (Go Next s) f g = refl
 go_both (Go Broken s) f g = refl
 go_both (Go Again s) f g = refl
@@ -150,85 +151,85 @@ row_valued c (x ∷ xs) zero d h t =
 row_valued c (x ∷ xs) (suc k) d h t = row_valued c xs k d (omega (arith, h)) (both (row_fits c (exprs_view x.values)) (list_all (row_fits c) (rows_view xs)) t).1
 
 -- ---- what they do
-module _ (p : Program) (I : List Placed) (call : Calls (havoc p I)) where
+module _ (p : Program) (W : Mode) (call : Calls (judged p W)) where
   module _ (gives : Option IntType) where
-    execs_snoc : (xs : List Stmt) (x : Stmt) (s : Left)
-        → execs p (havoc p I) call gives (stmts_view (xs ++ x ∷ [])) s ≡ bind (execs p (havoc p I) call gives (stmts_view xs) s) (go_on (exec p (havoc p I) call gives (stmt_view x)))
-    execs_snoc [] x s = go_end (exec p (havoc p I) call gives (stmt_view x) s)
+    execs_snoc : (xs : List Stmt) (x : Stmt) (s : JudgedState)
+        → execs p (judged p W) call gives (stmts_view (xs ++ x ∷ [])) true s ≡ bind (execs p (judged p W) call gives (stmts_view xs) true s) (go_on (exec p (judged p W) call gives (stmt_view x) true))
+    execs_snoc [] x s = go_end (exec p (judged p W) call gives (stmt_view x) true s)
     execs_snoc (y ∷ ys) x s =
-        let r = exec p (havoc p I) call gives (stmt_view y) s in
-        ap (λ k. bind r (go_on k)) (λ i t. execs_snoc ys x t i) ∙ go_both r (execs p (havoc p I) call gives (stmts_view ys)) (exec p (havoc p I) call gives (stmt_view x))
+        let r = exec p (judged p W) call gives (stmt_view y) true s in
+        ap (λ k. bind r (go_on k)) (λ i t. execs_snoc ys x t i) ∙ go_both r (execs p (judged p W) call gives (stmts_view ys) true) (exec p (judged p W) call gives (stmt_view x) true)
 
-    pub execs_more : (xs : List Stmt) (k : ℕ) (d : Stmt) → k < length xs → (s : Left)
-        → bind (execs p (havoc p I) call gives (stmts_view (take k xs)) s) (go_on (exec p (havoc p I) call gives (stmt_view (get_or xs k d)))) ≡ execs p (havoc p I) call gives (stmts_view (take (k + 1) xs)) s
-    execs_more xs k d h s = sym (execs_snoc (take k xs) (get_or xs k d) s) ∙ ap (λ z. execs p (havoc p I) call gives (stmts_view z) s) (sym (front_more xs k d h))
+    pub execs_more : (xs : List Stmt) (k : ℕ) (d : Stmt) → k < length xs → (s : JudgedState)
+        → bind (execs p (judged p W) call gives (stmts_view (take k xs)) true s) (go_on (exec p (judged p W) call gives (stmt_view (get_or xs k d)) true)) ≡ execs p (judged p W) call gives (stmts_view (take (k + 1) xs)) true s
+    execs_more xs k d h s = sym (execs_snoc (take k xs) (get_or xs k d) s) ∙ ap (λ z. execs p (judged p W) call gives (stmts_view z) true s) (sym (front_more xs k d h))
 
   -- the state in which an object's cells stand
-  abbrev with_object : ℕ → Left → Left
-  with_object o s = with_cells_left (s.cells ++ cells_from o 0 (size_of_object p o) []) s
+  abbrev with_object : ℕ → JudgedState → JudgedState
+  with_object o s = with_cells_judged (s.cells ++ cells_from o 0 (size_of_object p o) []) s
 
-  name_is : (at spot : Spot) (o : ℕ) (x : Init) (ns : Names) (s : Left)
-      → declare p (havoc p I) call at (MoreName spot o x ns) s ≡ bind (initial p (havoc p I) call at spot o x (with_object o s)) (λ u. declare p (havoc p I) call at ns)
+  name_is : (at spot : Spot) (o : ℕ) (x : Init) (ns : Names) (s : JudgedState)
+      → declare p (judged p W) call at (MoreName spot o x ns) true s ≡ bind (initial p (judged p W) call at spot o x (with_object o s)) (λ u. declare p (judged p W) call at ns true)
   name_is at spot o x ns s =
-      ap (λ z. bind z (λ u s. bind (acts.declare Stopped Left cells_left with_cells_left o (size_of_object p o) s) (go_on (λ s. bind (initial p (havoc p I) call at spot o x s) (λ u. declare p (havoc p I) call at ns)))))
-      (no_ticks p I ACell (size_of_object p o) s)
+      ap (λ z. bind z (λ u s. bind (acts.declare Stopped JudgedState cells_judged with_cells_judged o (size_of_object p o) s) (go_on (λ s. bind (initial p (judged p W) call at spot o x s) (λ u. declare p (judged p W) call at ns true)))))
+      (no_ticks p W ACell (size_of_object p o) s)
 
-  names_snoc : (at : Spot) (xs : List Declared) (x : Declared) (s : Left)
-      → declare p (havoc p I) call at (names_view (xs ++ x ∷ [])) s ≡ bind (declare p (havoc p I) call at (names_view xs) s) (go_on (declare p (havoc p I) call at (names_view (x ∷ []))))
+  names_snoc : (at : Spot) (xs : List Declared) (x : Declared) (s : JudgedState)
+      → declare p (judged p W) call at (names_view (xs ++ x ∷ [])) true s ≡ bind (declare p (judged p W) call at (names_view xs) true s) (go_on (declare p (judged p W) call at (names_view (x ∷ [])) true))
   names_snoc at [] x s = refl
   names_snoc at (y ∷ ys) x s =
-      let r = initial p (havoc p I) call at y.spot y.object (init_view y.init) (with_object y.object s) in
-      let last = declare p (havoc p I) call at (names_view (x ∷ [])) in
-      name_is at y.spot y.object (init_view y.init) (names_view (ys ++ x ∷ [])) s ∙ ap (bind r) (λ i u t. names_snoc at ys x t i) ∙ after_both p r (λ u. declare p (havoc p I) call at (names_view ys)) (go_on last)
+      let r = initial p (judged p W) call at y.spot y.object (init_view y.init) (with_object y.object s) in
+      let last = declare p (judged p W) call at (names_view (x ∷ [])) true in
+      name_is at y.spot y.object (init_view y.init) (names_view (ys ++ x ∷ [])) s ∙ ap (bind r) (λ i u t. names_snoc at ys x t i) ∙ after_both p r (λ u. declare p (judged p W) call at (names_view ys) true) (go_on last)
       ∙ ap (λ z. bind z (go_on last)) (sym (name_is at y.spot y.object (init_view y.init) (names_view ys) s))
 
-  pub declare_more : (at : Spot) (xs : List Declared) (k : ℕ) (d : Declared) → k < length xs → (s : Left)
-      → bind (declare p (havoc p I) call at (names_view (take k xs)) s) (go_on (declare p (havoc p I) call at (names_view (get_or xs k d ∷ [])))) ≡ declare p (havoc p I) call at (names_view (take (k + 1) xs)) s
-  declare_more at xs k d h s = sym (names_snoc at (take k xs) (get_or xs k d) s) ∙ ap (λ z. declare p (havoc p I) call at (names_view z) s) (sym (front_more xs k d h))
+  pub declare_more : (at : Spot) (xs : List Declared) (k : ℕ) (d : Declared) → k < length xs → (s : JudgedState)
+      → bind (declare p (judged p W) call at (names_view (take k xs)) true s) (go_on (declare p (judged p W) call at (names_view (get_or xs k d ∷ [])) true)) ≡ declare p (judged p W) call at (names_view (take (k + 1) xs)) true s
+  declare_more at xs k d h s = sym (names_snoc at (take k xs) (get_or xs k d) s) ∙ ap (λ z. declare p (judged p W) call at (names_view z) true s) (sym (front_more xs k d h))
 
   -- the state in which a value of an object's initializer is stored
-  abbrev with_value : ℕ → ℕ → ℤ → Left → Left
-  with_value o i z s = with_cells_left (put (record { object = o; index = i }) (fit p.model (type_of_object p o) z) s.cells) s
+  abbrev with_value : ℕ → ℕ → ℤ → JudgedState → JudgedState
+  with_value o i z s = with_cells_judged (put (record { object = o; index = i }) (fit p.model (type_of_object p o) z) s.cells) s
 
-  initials_snoc : (at : Spot) (o i : ℕ) (xs : List Expr) (x : Expr) (s : Left)
-      → initials p (havoc p I) call at o i (exprs_view (xs ++ x ∷ [])) s ≡ bind (initials p (havoc p I) call at o i (exprs_view xs) s) (λ u. initials p (havoc p I) call at o (i + length xs) (exprs_view (x ∷ [])))
-  initials_snoc at o i [] x s = let e : i ≡ i + 0 = omega arith in ap (λ j. initials p (havoc p I) call at o j (exprs_view (x ∷ [])) s) e
+  initials_snoc : (at : Spot) (o i : ℕ) (xs : List Expr) (x : Expr) (s : JudgedState)
+      → initials p (judged p W) call at o i (exprs_view (xs ++ x ∷ [])) s ≡ bind (initials p (judged p W) call at o i (exprs_view xs) s) (λ u. initials p (judged p W) call at o (i + length xs) (exprs_view (x ∷ [])))
+  initials_snoc at o i [] x s = let e : i ≡ i + 0 = omega arith in ap (λ j. initials p (judged p W) call at o j (exprs_view (x ∷ [])) s) e
   initials_snoc at o i (y ∷ ys) x s =
       let e : suc i + length ys ≡ i + suc (length ys) = omega arith in
-      let r = full p (havoc p I) call at Used (expr_view y) s in
-      let front : ℤ → Left → Res Stopped Left (Unit {0}) = λ z t. initials p (havoc p I) call at o (suc i) (exprs_view ys) (with_value o i z t) in
-      let last : ℕ → Left → Res Stopped Left (Unit {0}) = λ j. initials p (havoc p I) call at o j (exprs_view (x ∷ [])) in
+      let r = full p (judged p W) call at Used (expr_view y) s in
+      let front : ℤ → JudgedState → Res Stopped JudgedState (Unit {0}) = λ z t. initials p (judged p W) call at o (suc i) (exprs_view ys) (with_value o i z t) in
+      let last : ℕ → JudgedState → Res Stopped JudgedState (Unit {0}) = λ j. initials p (judged p W) call at o j (exprs_view (x ∷ [])) in
       ap (bind r) (λ j z t. initials_snoc at o (suc i) ys x (with_value o i z t) j) ∙ after_both p r front (λ u. last (suc i + length ys)) ∙ ap (λ j. bind (bind r front) (λ u. last j)) e
 
-  pub values_more : (at : Spot) (o i : ℕ) (xs : List Expr) (k : ℕ) (d : Expr) → k < length xs → (s : Left)
-      → bind (initials p (havoc p I) call at o i (exprs_view (take k xs)) s) (λ u. initials p (havoc p I) call at o (i + k) (exprs_view (get_or xs k d ∷ []))) ≡ initials p (havoc p I) call at o i (exprs_view (take (k + 1) xs)) s
+  pub values_more : (at : Spot) (o i : ℕ) (xs : List Expr) (k : ℕ) (d : Expr) → k < length xs → (s : JudgedState)
+      → bind (initials p (judged p W) call at o i (exprs_view (take k xs)) s) (λ u. initials p (judged p W) call at o (i + k) (exprs_view (get_or xs k d ∷ []))) ≡ initials p (judged p W) call at o i (exprs_view (take (k + 1) xs)) s
   values_more at o i xs k d h s =
       let e : i + k ≡ i + length (take k xs) = omega (arith, length-take-le k xs (omega (arith, h))) in
-      ap (λ j. bind (initials p (havoc p I) call at o i (exprs_view (take k xs)) s) (λ u. initials p (havoc p I) call at o j (exprs_view (get_or xs k d ∷ [])))) e ∙ sym (initials_snoc at o i (take k xs) (get_or xs k d) s)
-      ∙ ap (λ z. initials p (havoc p I) call at o i (exprs_view z) s) (sym (front_more xs k d h))
+      ap (λ j. bind (initials p (judged p W) call at o i (exprs_view (take k xs)) s) (λ u. initials p (judged p W) call at o j (exprs_view (get_or xs k d ∷ [])))) e ∙ sym (initials_snoc at o i (take k xs) (get_or xs k d) s)
+      ∙ ap (λ z. initials p (judged p W) call at o i (exprs_view z) s) (sym (front_more xs k d h))
 
   -- rows one after another, each from its own cell on
-  units_end : (r : Res Stopped Left (Unit {0})) → bind r (λ u s. Go tt s) ≡ r
+  units_end : (r : Res Stopped JudgedState (Unit {0})) → bind r (λ u s. Go tt s) ≡ r
   units_end (Go u s) = refl
   units_end (Stop e s) = refl
 
-  rows_snoc : (at : Spot) (o i : ℕ) (xs : List Row) (x : Row) (s : Left) → row_initials p (havoc p I) call at o i (rows_view (xs ++ x ∷ [])) s
-      ≡ bind (row_initials p (havoc p I) call at o i (rows_view xs) s) (λ u. initials p (havoc p I) call at o (i + length xs * columns_of_object p o) (exprs_view x.values))
+  rows_snoc : (at : Spot) (o i : ℕ) (xs : List Row) (x : Row) (s : JudgedState) → row_initials p (judged p W) call at o i (rows_view (xs ++ x ∷ [])) s
+      ≡ bind (row_initials p (judged p W) call at o i (rows_view xs) s) (λ u. initials p (judged p W) call at o (i + length xs * columns_of_object p o) (exprs_view x.values))
   rows_snoc at o i [] x s =
       let e : i ≡ i + 0 * columns_of_object p o = omega arith in
-      units_end (initials p (havoc p I) call at o i (exprs_view x.values) s) ∙ ap (λ j. initials p (havoc p I) call at o j (exprs_view x.values) s) e
+      units_end (initials p (judged p W) call at o i (exprs_view x.values) s) ∙ ap (λ j. initials p (judged p W) call at o j (exprs_view x.values) s) e
   rows_snoc at o i (y ∷ ys) x s =
       let c = columns_of_object p o in
       let e : i + c + length ys * c ≡ i + suc (length ys) * c = omega arith in
-      let r = initials p (havoc p I) call at o i (exprs_view y.values) s in
-      let front : Unit {0} → Left → Res Stopped Left (Unit {0}) = λ u t. row_initials p (havoc p I) call at o (i + c) (rows_view ys) t in
-      let last : ℕ → Left → Res Stopped Left (Unit {0}) = λ j. initials p (havoc p I) call at o j (exprs_view x.values) in
+      let r = initials p (judged p W) call at o i (exprs_view y.values) s in
+      let front : Unit {0} → JudgedState → Res Stopped JudgedState (Unit {0}) = λ u t. row_initials p (judged p W) call at o (i + c) (rows_view ys) t in
+      let last : ℕ → JudgedState → Res Stopped JudgedState (Unit {0}) = λ j. initials p (judged p W) call at o j (exprs_view x.values) in
       ap (bind r) (λ j u t. rows_snoc at o (i + c) ys x t j) ∙ after_both p r front (λ u. last (i + c + length ys * c)) ∙ ap (λ j. bind (bind r front) (λ u. last j)) e
 
-  pub row_values_more : (at : Spot) (o : ℕ) (xs : List Row) (k : ℕ) (d : Row) → k < length xs → (s : Left)
-      → bind (row_initials p (havoc p I) call at o 0 (rows_view (take k xs)) s) (λ u. initials p (havoc p I) call at o (k * columns_of_object p o) (exprs_view (get_or xs k d).values))
-      ≡ row_initials p (havoc p I) call at o 0 (rows_view (take (k + 1) xs)) s
+  pub row_values_more : (at : Spot) (o : ℕ) (xs : List Row) (k : ℕ) (d : Row) → k < length xs → (s : JudgedState)
+      → bind (row_initials p (judged p W) call at o 0 (rows_view (take k xs)) s) (λ u. initials p (judged p W) call at o (k * columns_of_object p o) (exprs_view (get_or xs k d).values))
+      ≡ row_initials p (judged p W) call at o 0 (rows_view (take (k + 1) xs)) s
   row_values_more at o xs k d h s =
       let e : k * columns_of_object p o ≡ 0 + length (take k xs) * columns_of_object p o = ap (λ j. j * columns_of_object p o) (sym (length-take-le k xs (omega (arith, h)))) ∙ (let f : length (take k xs) * columns_of_object p o ≡ 0 + length (take k xs) * columns_of_object p o = omega arith in f) in
-      ap (λ j. bind (row_initials p (havoc p I) call at o 0 (rows_view (take k xs)) s) (λ u. initials p (havoc p I) call at o j (exprs_view (get_or xs k d).values))) e ∙ sym (rows_snoc at o 0 (take k xs) (get_or xs k d) s)
-      ∙ ap (λ z. row_initials p (havoc p I) call at o 0 (rows_view z) s) (sym (front_more xs k d h))
+      ap (λ j. bind (row_initials p (judged p W) call at o 0 (rows_view (take k xs)) s) (λ u. initials p (judged p W) call at o j (exprs_view (get_or xs k d).values))) e ∙ sym (rows_snoc at o 0 (take k xs) (get_or xs k d) s)
+      ∙ ap (λ z. row_initials p (judged p W) call at o 0 (rows_view z) s) (sym (front_more xs k d h))

@@ -6,9 +6,9 @@ use Rattle.std.proofs.lemmas.List.{take-append-drop, length-take-le, length-map,
 use Rattle.std.proofs.lemmas.List.Elements.{All-get_or}
 use Rattle.std.proofs.lemmas.List.Recursion.{is_count_by}
 use Rattle.std.specs.List.{list_all}
-use Rattle.c_core.specs.Tree.{Program, Exp, Expr, Stm, Stms, NoStm, MoreStm, MoreCase, Form, Stmt, Switch}
+use Rattle.c_core.specs.Tree.{Program, Exp, Expr, Stm, Stms, NoStm, MoreStm, MoreCase, Form, Switch}
 use Rattle.c_core.specs.Parts.{type_of as type_if, every_statement, every_statement_of}
-use Rattle.c_core.specs.Types.{fit, promote_of, width_of}
+use Rattle.c_core.specs.Types.{fit, promote_of}
 use Rattle.c_core.specs.Typing.{is_typed, has_value, is_default, label_fits, labels_in, statement_fits, switch_fits}
 use Rattle.c_core.specs.View.{joined, stmts_view, switch_view}
 use Rattle.c_core.specs.declared.number.DataModel.{DataModel}
@@ -18,10 +18,15 @@ use Rattle.c_core.specs.declared.tree.Arm.{Arm, out-Arm}
 use Rattle.c_core.specs.declared.tree.Label.{Label as ArmLabel}
 use Rattle.c_core.specs.declared.tree.Label.TheVariants.{Case, Default}
 use Rattle.c_core.proofs.View.{arm_views}
-use Rattle.c_meaning.specs.Acts.{Res, Go, Stop, Flow, Next, bind, go_on, scoped}
-use Rattle.c_meaning.specs.Duties.{Placed, Duties}
-use Rattle.c_meaning.specs.Exec.{full, form, from_arm}
-use Rattle.c_meaning.specs.Havoc.{Stopped, Left, cells_left, with_cells_left, havoc}
+use Rattle.c_meaning.specs.Acts.{Res, Go, Stop, Flow, bind, go_on, scoped}
+use Rattle.c_meaning.specs.Exec.{full, from_arm}
+use Rattle.c_meaning.specs.Havoc.{Stopped}
+use Rattle.sym_meaning.specs.Mode.{JudgedState, cells_judged, with_cells_judged, Mode}
+use Rattle.c_meaning.specs.declared.run.Event.TheVariants.{Branch}
+use Rattle.c_meaning.specs.Run.{way_for}
+use Rattle.sym_meaning.specs.Judged.{judged, selected}
+use Rattle.sym_state.specs.Telling.{telling}
+use Rattle.sym_state.proofs.Telling.{told_follows, follows_map}
 use Rattle.c_meaning.specs.Meaning.{Used}
 use Rattle.c_meaning.specs.Objects.{type_of}
 use Rattle.c_meaning.specs.Run.{arm_for}
@@ -145,21 +150,21 @@ switch_types m (Expr spot (Some ty) n) b h =
     let t = both (list_all (label_fits m (promote_of ty)) (labels_in b)) (nat_le (count_by is_default (labels_in b)) 1) h in
     (refl, t.0, at_most_one (count_by is_default (labels_in b)) t.1)
 
-module _ (p : Program) (I : List Placed) (n : ℕ) where
+module _ (p : Program) (W : Mode) (n : ℕ) where
   -- ---- the choice of an arm
-  module _ (at : Spot) (e : Exp) (ls : List ArmLabel) {s : Sym} (r : ChoiceReady p I n s e ls) where
+  module _ (at : Spot) (e : Exp) (ls : List ArmLabel) {s : Sym} (r : ChoiceReady p W n s e ls) where
     abbrev promoted : IntType
     promoted = promote_of (type_of e)
 
     test_type : type_if e ≡ Some (type_of e)
     test_type = has_one e r.value
 
-    pub chosen_by_ready : FullReady p I n s e
+    pub chosen_by_ready : FullReady p W n s e
     chosen_by_ready = record { fits = r.fits; types = r.types; room = omega (arith, r.room) }
 
-    module _ {a : Sym} {xs : List Bit} (x : FullGives p I n at Used e s a xs) where
+    module _ {a : Sym} {xs : List Bit} (x : FullGives p W n at Used e s a xs) where
       pub chosen_by_in : (from : IntType) → from ≡ type_of e → AreTyped p.model from a.net xs
-      chosen_by_in from q = rw q (full_in p I n at Used e (type_of e) test_type x)
+      chosen_by_in from q = rw q (full_in p W n at Used e (type_of e) test_type x)
 
       -- the conversion, with its types by other names
       pub promoted_as : (from to : IntType) → from ≡ type_of e → to ≡ promote_of from → {b : Sym} {ys : List Bit} → Reckoned p (conversion_cost p.model from to) a b to ys (λ v. fit p.model to (typed p.model from v a.net xs))
@@ -186,31 +191,35 @@ module _ (p : Program) (I : List Placed) (n : ℕ) where
           done_many : {m : ℕ} {f : (ℕ → Bool) → ℤ} {d : Sym} {bits : List Bit} (v : ℕ → Bool) → Entered p m ls f c d bits → length bits ≡ length ls
           done_many {f = f} {d = d} {bits = bits} v w = sym (length-map bits (holds v d.net)) ∙ ap length (w.are v) ∙ done_length (arm_for (f v) ls) ls
 
-          pub chosen_chooses : {d : Sym} {bits : List Bit} (k : ℕ) → k ≡ length ls → Entered p (2 * k) ls (λ v. typed p.model promoted v b.net ys) c d bits → Chooses p I n at e ls s d bits
-          chosen_chooses {d} {bits} k q w =
+          pub chosen_chooses : {d : Sym} {bits : List Bit} {told : Sym} (k : ℕ) → k ≡ length ls → Entered p (2 * k) ls (λ v. typed p.model promoted v b.net ys) c d bits
+              → Turned p 0 0 d told (λ v. telling W (Branch at (way_for (typed p.model promoted v b.net ys) ls))) → Chooses p W n at e ls s told bits
+          chosen_chooses {d} {bits} {told} k q w ev =
               let value : (ℕ → Bool) → ℤ = λ v. typed p.model promoted v b.net ys in
               let two = turned_then p (conversion_cost p.model (type_of e) promoted + cases_cost p.model promoted ls) 0 y.turned z.turned (omega arith) (omega arith) in
-              let three = turned_then p (choice_cost p I n (type_of e) ls) 0 two w.turned (omega (arith, q)) (omega arith) in
+              let three = turned_then p (choice_cost p W n (type_of e) ls) 0 two w.turned (omega (arith, q)) (omega arith) in
+              let chosen : Follows W.duties p 0 0 d told (λ v k. map (holds v told.net) bits ≡ done_from k ls) (λ v. selected p W at (value v) ls) =
+              follows_map p W (λ v u. arm_for (value v) ls) (told_follows p W (λ v. Branch at (way_for (value v) ls)) ev) (λ v u t. all_held ev.added v bits w.inside ∙ w.are v) in
               record {
                 many = done_many (λ k. false) w;
-                inside = w.inside;
-                follows = follows_then p (Duties p I) (weight_of p I n e + choice_cost p I n (type_of e) ls) (bits_of p I n e) (λ v z s. Go (arm_for (fit p.model promoted z) ls) s) x.follows
-                    (net_follows p (Duties p I) (λ v. arm_for (value v) ls) (turned_as p (λ v s. s) three (λ v. refl)) (λ v. w.are v))
-                    (λ v z t s. ap (λ w. Go (arm_for w ls) s) (ap (fit p.model promoted) (number_as p I n a xs e (type_of e) test_type v z t) ∙ sym (y.is v)))
+                inside = all_added ev.added bits w.inside;
+                follows = follows_then p W.duties (weight_of p W n e + choice_cost p W n (type_of e) ls) (bits_of p W n e) (λ v z. selected p W at (fit p.model promoted z) ls) x.follows
+                    (follows_then p W.duties (choice_cost p W n (type_of e) ls) 0 (λ v u. selected p W at (value v) ls)
+                    (net_follows p W.duties {S = λ v u. Unit {0}} (λ v. tt {0}) (turned_as p (λ v s. s) three (λ v. refl)) (λ v. tt {0})) chosen (λ v u t s. refl) (omega arith) (omega arith))
+                    (λ v z t s. ap (λ w. selected p W at w ls s) (ap (fit p.model promoted) (number_as p W n a xs e (type_of e) test_type v z t) ∙ sym (y.is v)))
                     (omega arith) (omega arith);
               }
 
   module _ (gives : Option IntType) where
     -- ---- one arm
-    module _ (bit : Bit) (b : Stms) {s : Sym} (r : ArmReady p I n gives s bit b) where
+    module _ (bit : Bit) (b : Stms) {s : Sym} (r : ArmReady p W n gives s bit b) where
       pub arm_room : length s.net < 2 ^ 28
       arm_room = omega (arith, r.room)
 
       module _ {a : Sym} {f : (ℕ → Bool) → Stand → Stand} (x : Turned p 1 0 s a f) where
-        pub arm_starts : BlockReady p I n gives a b
+        pub arm_starts : BlockReady p W n gives a b
         arm_starts = record { fits = x.fits; result = x.result ∙ r.result; types = r.types; room = omega (arith, (longer_by x.added).1, r.room) }
 
-        module _ {c : Sym} (y : BlockDoes p I n gives b a c) where
+        module _ {c : Sym} (y : BlockDoes p W n gives b a c) where
           pub arm_still : (k : Bit) → IsIn s.net k → IsIn c.net k
           arm_still k q = in_added y.added k (in_added x.added k q)
 
@@ -224,34 +233,34 @@ module _ (p : Program) (I : List Placed) (n : ℕ) where
             pub arm_last_room : length d.net < 2 ^ 28
             arm_last_room = omega (arith, (longer_by x.added).1, (longer_by y.added).1, (longer_by z.added).1, r.room)
 
-    pub arm_does : {s a c d e : Sym} (bit other : Bit) (b : Stms) → ArmReady p I n gives s bit b → other ≡ opposite bit
-        → Turned p 1 0 s a (λ v. with_live (holds v s.net s.live && holds v s.net bit)) → BlockDoes p I n gives b a c → length c.cells.items ≡ length s.cells.items
-        → Turned p 1 0 c d (λ v. with_live (holds v c.net s.live && holds v c.net other)) → Turned p 1 0 d e (λ v. with_live (holds v d.net c.live || holds v d.net d.live)) → ArmDoes p I n gives bit b s e
+    pub arm_does : {s a c d e : Sym} (bit other : Bit) (b : Stms) → ArmReady p W n gives s bit b → other ≡ opposite bit
+        → Turned p 1 0 s a (λ v. with_live (holds v s.net s.live && holds v s.net bit)) → BlockDoes p W n gives b a c → length c.cells.items ≡ length s.cells.items
+        → Turned p 1 0 c d (λ v. with_live (holds v c.net s.live && holds v c.net other)) → Turned p 1 0 d e (λ v. with_live (holds v d.net c.live || holds v d.net d.live)) → ArmDoes p W n gives bit b s e
     arm_does {s} {a} {c} {d} {e} bit other b r q x y l z w =
         let z' : Turned p 1 0 c d (λ v. with_live (holds v c.net s.live && holds v c.net (opposite bit))) = subst (λ k. Turned p 1 0 c d (λ v. with_live (holds v c.net s.live && holds v c.net k))) q z in
         record {
-          runs = arms_run p (Duties p I) gives (arm_glue + weight_of_block p I n gives b) (bits_of_block p I n gives b) bit r.fits r.bit_in x y (l ∙ sym x.level) z' (skip_runs p (Duties p I) gives d z.fits) refl w (omega arith) (omega arith);
+          runs = arms_run p W.duties gives (arm_glue + weight_of_block p W n gives b) (bits_of_block p W n gives b) bit r.fits r.bit_in x y (l ∙ sym x.level) z' (skip_runs p W.duties gives d z.fits) refl w (omega arith) (omega arith);
           level = w.level ∙ z.level ∙ l;
         }
 
     -- ---- the arms
-    pub arms_none : (s : Sym) → IsState p s → ArmsDo p I n gives [] [] s s
-    arms_none s h = record { runs = runs_as p (Duties p I) gives (skip_runs p (Duties p I) gives s h) (λ v t. refl) (omega arith) (omega arith); level = refl }
+    pub arms_none : (s : Sym) → IsState p s → ArmsDo p W n gives [] [] s s
+    arms_none s h = record { runs = runs_as p W.duties gives (skip_runs p W.duties gives s h) (λ v t. refl) (omega arith) (omega arith); level = refl }
 
     module _ (bits : List Bit) (arms : List Arm) (k : ℕ) (d bit : Bit) (a : Arm) (h : k < length arms) (e : a ≡ get_or arms k a) (i : k < length bits) (q : bit ≡ get_or bits k d) where
       abbrev body : Stms
       body = stmts_view (out-Arm a).body
 
-      weight_more : weight_of_block p I n gives (switch_view (take (k + 1) arms)) ≡ weight_of_block p I n gives (switch_view (take k arms)) + weight_of_block p I n gives body
-      weight_more = arms_amount p (λ w b. w) (weight_in p I n) (placed_weight p I) gives arms k a h e
+      weight_more : weight_of_block p W n gives (switch_view (take (k + 1) arms)) ≡ weight_of_block p W n gives (switch_view (take k arms)) + weight_of_block p W n gives body
+      weight_more = arms_amount p (λ w b. w) (weight_in p W.placed n) (placed_weight p W.placed) gives arms k a h e
 
-      bits_more : bits_of_block p I n gives (switch_view (take (k + 1) arms)) ≡ bits_of_block p I n gives (switch_view (take k arms)) + bits_of_block p I n gives body
+      bits_more : bits_of_block p W n gives (switch_view (take (k + 1) arms)) ≡ bits_of_block p W n gives (switch_view (take k arms)) + bits_of_block p W n gives body
       bits_more = arms_amount p (λ w b. b) (bits_in p n) nowhere gives arms k a h e
 
-      weight_within : weight_of_block p I n gives (switch_view (take (k + 1) arms)) ≤ weight_of_block p I n gives (switch_view arms)
-      weight_within = arms_within p (λ w b. w) (weight_in p I n) (placed_weight p I) gives arms (k + 1)
+      weight_within : weight_of_block p W n gives (switch_view (take (k + 1) arms)) ≤ weight_of_block p W n gives (switch_view arms)
+      weight_within = arms_within p (λ w b. w) (weight_in p W.placed n) (placed_weight p W.placed) gives arms (k + 1)
 
-      bits_within : bits_of_block p I n gives (switch_view (take (k + 1) arms)) ≤ bits_of_block p I n gives (switch_view arms)
+      bits_within : bits_of_block p W n gives (switch_view (take (k + 1) arms)) ≤ bits_of_block p W n gives (switch_view arms)
       bits_within = arms_within p (λ w b. b) (bits_in p n) nowhere gives arms (k + 1)
 
       count : length (take k arms) ≡ k
@@ -261,13 +270,13 @@ module _ (p : Program) (I : List Placed) (n : ℕ) where
       count_more = length-take-le (k + 1) arms (omega (arith, h))
 
       -- the statements of an arm weigh no more than those of all
-      pub arms_part : weight_of_block p I n gives body ≤ weight_of_block p I n gives (switch_view arms)
+      pub arms_part : weight_of_block p W n gives body ≤ weight_of_block p W n gives (switch_view arms)
       arms_part = omega (arith, weight_more, weight_within)
 
       bit_inside : (net : List NetNode) → AreIn net bits → IsIn net bit
       bit_inside net f = subst (IsIn net) (sym q) (All-get_or (λ b. IsIn net b) bits k d i f)
 
-      pub arms_next : {s m : Sym} → ArmsReady p I n gives s bits arms → ArmsDo p I n gives (take k bits) (take k arms) s m → ArmReady p I n gives m bit body
+      pub arms_next : {s m : Sym} → ArmsReady p W n gives s bits arms → ArmsDo p W n gives (take k bits) (take k arms) s m → ArmReady p W n gives m bit body
       arms_next {s} {m} r y = record {
         fits = y.runs.fits;
         result = y.runs.result ∙ r.result;
@@ -279,22 +288,22 @@ module _ (p : Program) (I : List Placed) (n : ℕ) where
       bits_on : take (k + 1) bits ≡ take k bits ++ bit ∷ []
       bits_on = let n : k + 1 ≡ suc k = omega arith in ap (λ j. take j bits) n ∙ take-suc bits k d i ∙ ap (λ x. take k bits ++ x ∷ []) (sym q)
 
-      pub arms_on : {s m t : Sym} → AreIn s.net bits → ArmsDo p I n gives (take k bits) (take k arms) s m → ArmDoes p I n gives bit body m t → ArmsDo p I n gives (take (k + 1) bits) (take (k + 1) arms) s t
+      pub arms_on : {s m t : Sym} → AreIn s.net bits → ArmsDo p W n gives (take k bits) (take k arms) s m → ArmDoes p W n gives bit body m t → ArmsDo p W n gives (take (k + 1) bits) (take (k + 1) arms) s t
       arms_on {s} {m} {t} f y z = record {
-        runs = runs_as p (Duties p I) gives
-            (runs_then p (Duties p I) gives (weight_of_arms p I n gives (take (k + 1) arms)) (bits_of_arms p I n gives (take (k + 1) arms)) y.runs z.runs (omega (arith, weight_more, count, count_more)) (omega (arith, bits_more)))
+        runs = runs_as p W.duties gives
+            (runs_then p W.duties gives (weight_of_arms p W n gives (take (k + 1) arms)) (bits_of_arms p W n gives (take (k + 1) arms)) y.runs z.runs (omega (arith, weight_more, count, count_more)) (omega (arith, bits_more)))
             (λ v u.
             let hold : Bit → Bool = holds v s.net in
-            ap (λ t. bind (arms_done p I n gives (map hold (take k bits)) (take k arms) u) (go_on (arm_done p I n gives t body))) (holds_added y.runs.added v bit (bit_inside s.net f))
-            ∙ sym (arms_snoc p I n gives (map hold (take k bits)) (take k arms) (hold bit) a u (length-map (take k bits) hold ∙ length-take-le k bits (omega (arith, i)) ∙ sym count))
-            ∙ ap (λ ts. arms_done p I n gives ts (take k arms ++ a ∷ []) u) (sym (map-append hold (take k bits) (bit ∷ [])) ∙ ap (map hold) (sym bits_on))
-            ∙ ap (λ rest. arms_done p I n gives (map hold (take (k + 1) bits)) rest u) (sym (arms_more arms k a h e)))
+            ap (λ t. bind (arms_done p W n gives (map hold (take k bits)) (take k arms) u) (go_on (arm_done p W n gives t body))) (holds_added y.runs.added v bit (bit_inside s.net f))
+            ∙ sym (arms_snoc p W n gives (map hold (take k bits)) (take k arms) (hold bit) a u (length-map (take k bits) hold ∙ length-take-le k bits (omega (arith, i)) ∙ sym count))
+            ∙ ap (λ ts. arms_done p W n gives ts (take k arms ++ a ∷ []) u) (sym (map-append hold (take k bits) (bit ∷ [])) ∙ ap (map hold) (sym bits_on))
+            ∙ ap (λ rest. arms_done p W n gives (map hold (take (k + 1) bits)) rest u) (sym (arms_more arms k a h e)))
             (omega arith) (omega arith);
         level = z.level ∙ y.level;
       }
 
     -- ---- the whole
-    module _ (at : Spot) (e : Exp) (arms : List Arm) {s : Sym} (r : FormReady p I n gives at s (Switch e (switch_view arms))) where
+    module _ (at : Spot) (e : Exp) (arms : List Arm) {s : Sym} (r : FormReady p W n gives at s (Switch e (switch_view arms))) where
       abbrev labels : List ArmLabel
       labels = labels_in (switch_view arms)
 
@@ -302,10 +311,10 @@ module _ (p : Program) (I : List Placed) (n : ℕ) where
       switch_is = switch_types p.model e (switch_view arms) (form_types p gives at (Switch e (switch_view arms)) r.types).0
 
       -- the choice, the arms and the end of the switch are paid for by its weight
-      switch_pays : choice_cost p I n (type_of e) labels + (arm_glue * length arms + 1) ≤ form_glue + chooses p.model (type_of e) labels
+      switch_pays : choice_cost p W n (type_of e) labels + (arm_glue * length arms + 1) ≤ form_glue + chooses p.model (type_of e) labels
       switch_pays = omega (arith, conversion_costs p.model (type_of e) (promote_of (type_of e)), labels_cost p.model (promote_of (type_of e)) labels, labels_many arms, switch_is.2)
 
-      pub switch_chooses : ChoiceReady p I n s e labels
+      pub switch_chooses : ChoiceReady p W n s e labels
       switch_chooses = record {
         fits = r.fits;
         types = only_one (is_typed p) e (form_types p gives at (Switch e (switch_view arms)) r.types).1;
@@ -314,12 +323,12 @@ module _ (p : Program) (I : List Placed) (n : ℕ) where
         room = omega (arith, r.room, switch_pays);
       }
 
-      module _ {a : Sym} {bits : List Bit} (x : Chooses p I n at e labels s a bits) where
-        abbrev out : Flow → Left → Res Stopped Left Flow
+      module _ {a : Sym} {bits : List Bit} (x : Chooses p W n at e labels s a bits) where
+        abbrev out : Flow → JudgedState → Res Stopped JudgedState Flow
         out f t = Go (out_of_loop f) t
 
         module _ {b : Sym} (y : Became p 0 a b (λ v. fresh_broken)) where
-          pub arms_start : ArmsReady p I n gives b bits arms
+          pub arms_start : ArmsReady p W n gives b bits arms
           arms_start = record {
             fits = y.fits;
             result = y.result ∙ x.follows.result ∙ r.result;
@@ -329,7 +338,7 @@ module _ (p : Program) (I : List Placed) (n : ℕ) where
             room = omega (arith, (longer_by x.follows.added).1, (longer_by y.added).1, switch_pays, r.room);
           }
 
-          module _ {c : Sym} (z : ArmsDo p I n gives bits arms b c) where
+          module _ {c : Sym} (z : ArmsDo p W n gives bits arms b c) where
             pub switch_kept_in : (kept : Bit) → kept ≡ a.broken → IsIn c.net kept
             switch_kept_in kept q = subst (IsIn c.net) (sym q) (in_added z.runs.added a.broken (in_added y.added a.broken x.follows.fits.broken))
 
@@ -337,25 +346,25 @@ module _ (p : Program) (I : List Placed) (n : ℕ) where
             switch_room = omega (arith, (longer_by x.follows.added).1, (longer_by y.added).1, (longer_by z.runs.added).1, switch_pays, r.room)
 
             -- the arms of a number on, for each run by the value of its test
-            as_chosen : (v : ℕ → Bool) (k : ℕ) → map (holds v a.net) bits ≡ done_from k labels → (u : Left)
-                → from_arm p (havoc p I) (calls p I n) gives k (switch_view arms) u ≡ scoped Stopped Left cells_left with_cells_left (λ t. bind (arms_done p I n gives (map (holds v b.net) bits) arms t) out) u
+            as_chosen : (v : ℕ → Bool) (k : ℕ) → map (holds v a.net) bits ≡ done_from k labels → (u : JudgedState)
+                → from_arm p (judged p W) (calls p W n) gives k (switch_view arms) true u ≡ scoped Stopped JudgedState cells_judged with_cells_judged (λ t. bind (arms_done p W n gives (map (holds v b.net) bits) arms t) out) u
             as_chosen v k t u =
-                sym (chosen_is p I n gives k arms u)
-                ∙ ap (λ ts. scoped Stopped Left cells_left with_cells_left (λ t. bind (arms_done p I n gives ts arms t) out) u)
+                sym (chosen_is p W n gives k arms u)
+                ∙ ap (λ ts. scoped Stopped JudgedState cells_judged with_cells_judged (λ t. bind (arms_done p W n gives ts arms t) out) u)
                 (ap (done_from k) (sym (labels_are arms)) ∙ sym t ∙ sym (all_held y.added v bits x.inside))
 
-            chosen_then : (w : Res Stopped Left ℤ)
-                → bind (bind w (λ z t. Go (arm_for (fit p.model (promote_of (type_of e)) z) labels) t)) (λ k t. from_arm p (havoc p I) (calls p I n) gives k (switch_view arms) t)
-                ≡ bind w (λ z t. from_arm p (havoc p I) (calls p I n) gives (arm_for (fit p.model (promote_of (type_of e)) z) labels) (switch_view arms) t)
+            chosen_then : (w : Res Stopped JudgedState ℤ)
+                → bind (bind w (λ z. selected p W at (fit p.model (promote_of (type_of e)) z) labels)) (λ k t. from_arm p (judged p W) (calls p W n) gives k (switch_view arms) true t)
+                ≡ bind w (λ z t. bind (selected p W at (fit p.model (promote_of (type_of e)) z) labels t) (λ k t. from_arm p (judged p W) (calls p W n) gives k (switch_view arms) true t))
             chosen_then (Go z t) = refl
             chosen_then (Stop f t) = refl
 
-            pub switch_does : {d : Sym} (kept : Bit) (cells : ℕ) → kept ≡ a.broken → cells ≡ length a.cells.items → Became p 1 c d (λ v. behind_loop (holds v c.net kept) cells) → FormDoes p I n gives at (Switch e (switch_view arms)) s d
+            pub switch_does : {d : Sym} (kept : Bit) (cells : ℕ) → kept ≡ a.broken → cells ≡ length a.cells.items → Became p 1 c d (λ v. behind_loop (holds v c.net kept) cells) → FormDoes p W n gives at (Switch e (switch_view arms)) s d
             switch_does {d} kept cells ek en w =
                 let w' : Became p 1 c d (λ v. behind_loop (stand p v a).broken (length a.cells.items)) =
-                became_as (λ v. behind_loop (stand p v a).broken (length a.cells.items)) w (λ v t. ap₂ (λ k m. behind_loop k m t) (kept_holds p I n gives kept a.broken ek x.follows.fits.broken y z.runs v) en) in
+                became_as (λ v. behind_loop (stand p v a).broken (length a.cells.items)) w (λ v t. ap₂ (λ k m. behind_loop k m t) (kept_holds p W n gives kept a.broken ek x.follows.fits.broken y z.runs v) en) in
                 let f : Form = Switch e (switch_view arms) in
-                runs_as p (Duties p I) gives
-                (follows_runs p (Duties p I) gives (form_glue + weight_of_form p I n gives at f) (bits_of_form p I n gives at f) (λ v k t. from_arm p (havoc p I) (calls p I n) gives k (switch_view arms) t) x.follows
-                (broken_runs p (Duties p I) gives y z.runs w') as_chosen (omega (arith, switch_pays)) (omega arith))
-                (λ v u. chosen_then (full p (havoc p I) (calls p I n) at Used e u)) (omega arith) (omega arith)
+                runs_as p W.duties gives
+                (follows_runs p W.duties gives (form_glue + weight_of_form p W n gives at f) (bits_of_form p W n gives at f) (λ v k t. from_arm p (judged p W) (calls p W n) gives k (switch_view arms) true t) x.follows
+                (broken_runs p W.duties gives y z.runs w') as_chosen (omega (arith, switch_pays)) (omega arith))
+                (λ v u. chosen_then (full p (judged p W) (calls p W n) at Used e u)) (omega arith) (omega arith)

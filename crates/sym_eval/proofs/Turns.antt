@@ -9,23 +9,27 @@ use Rattle.c_core.specs.Typing.{is_typed, has_value, first_fits, form_fits, stat
 use Rattle.c_core.specs.declared.number.IntType.{IntType}
 use Rattle.c_core.specs.declared.number.Spot.{Spot}
 use Rattle.c_calls.specs.Loops.{is_loop, loop_of, changed_if}
-use Rattle.c_meaning.specs.declared.run.Duty.{Duty}
 use Rattle.c_meaning.specs.declared.run.DutyKind.TheVariants.{Entry, Kept as KeptKind}
-use Rattle.c_meaning.specs.Acts.{Res, Go, Stop, Flow, Next, Broken, Again, Gave, bind, go_on, scoped, continued, cut}
-use Rattle.c_meaning.specs.Duties.{Placed, Duties}
+use Rattle.c_meaning.specs.Acts.{Res, Go, Flow, Next, Broken, Again, Gave, bind, go_on}
 use Rattle.c_meaning.specs.Exec.{full, full_if, control, going, first, declare, exec, turn}
-use Rattle.c_meaning.specs.Havoc.{Stopped, Left, cells_left, with_cells_left, havoc, test_from, assume_all, redraw}
+use Rattle.c_meaning.specs.Havoc.{Stopped}
+use Rattle.c_meaning.specs.declared.run.Event.TheVariants.{Branch}
+use Rattle.c_meaning.specs.declared.run.Way.TheVariants.{Truth}
+use Rattle.c_meaning.specs.Duties.{Placed, Duties}
+use Rattle.sym_meaning.specs.Mode.{JudgedState, Turn, Mode}
+use Rattle.sym_meaning.specs.Judged.{judged, tell, body_of}
+use Rattle.sym_meaning.specs.Obliging.{test_from, assume_all, redraw, obliging}
 use Rattle.c_meaning.specs.Meaning.{Used, Unused, Loop, WhileLoop, DoLoop, ForLoop}
-use Rattle.c_meaning.specs.Objects.{type_or_int, size_of_object}
+use Rattle.c_meaning.specs.Objects.{size_of_object}
 use Rattle.c_meaning.proofs.TypeFacts.{both, neither}
 use Rattle.circuits.specs.declared.net.Bit.{Bit}
 use Rattle.circuits.specs.declared.net.NetNode.{NetNode}
 use Rattle.circuits.specs.Net.{holds, IsIn}
 use Rattle.sym_state.specs.declared.state.Sym.{Sym}
-use Rattle.sym_state.specs.Standing.{Stand, stand, IsState, Added}
+use Rattle.sym_state.specs.Standing.{Stand, stand, Added}
 use Rattle.sym_state.specs.Following.{Deed, Follows}
 use Rattle.sym_state.proofs.Composed.{follows_as}
-use Rattle.sym_state.proofs.Nets.{added_then, holds_added, in_added, longer_by}
+use Rattle.sym_state.proofs.Nets.{holds_added, in_added, longer_by}
 use Rattle.sym_values.specs.Storing.{Ends, end_of}
 use Rattle.sym_flow.specs.Drawing as drawn
 use Rattle.sym_flow.specs.Leaving.{Runs}
@@ -38,8 +42,7 @@ use Rattle.sym_weight.specs.Table.{bits_of_objects}
 use Rattle.sym_weight.specs.Weight.{placed_weight}
 use Rattle.sym_eval.specs.Doing.{calls, weight_of, bits_of, weight_of_first, bits_of_first, weight_of_form, Ready, Does, FirstReady, FirstDoes, FormReady, FormDoes}
 use Rattle.sym_eval.specs.Control.{TestReady, TestDoes, is_test, is_typed_if, TestIfReady, TestIfDoes, weight_of_step, bits_of_step, StepReady, StepDoes}
-use Rattle.sym_eval.specs.Looping.{turn_glue, loop_glue, turn_fits, changed_bits, HeadDoes, BodyReady, BodyDoes, weight_of_turn, bits_of_turn, TurnReady, turned, TurnDoes, weight_of_loop, bits_of_loop, LoopReady, looped, LoopDoes, ForReady, ForDoes}
-use Rattle.sym_eval.proofs.Deciding.{at_once}
+use Rattle.sym_eval.specs.Looping.{turn_glue, loop_glue, turn_fits, changed_bits, HeadDoes, BodyReady, BodyDoes, weight_of_turn, bits_of_turn, TurnReady, TurnDoes, weight_of_loop, bits_of_loop, LoopReady, looped, LoopDoes, ForReady, ForDoes}
 
 -- what a call made of a state, told otherwise
 pub became_as : {p : Program} {i : ℕ} {a b : Sym} {f : (ℕ → Bool) → Stand → Stand} (g : (ℕ → Bool) → Stand → Stand) → Became p i a b f → ((v : ℕ → Bool) (s : Stand) → f v s ≡ g v s) → Became p i a b g
@@ -55,37 +58,38 @@ bits_same p [] = refl
 bits_same p (o ∷ os) = ap (λ k. drawn.bits_of_cells p o (size_of_object p o) + k) (bits_same p os)
 
 -- ---- one part behind another, where the definition has the other in its arms
-module _ (p : Program) (I : List Placed) (n : ℕ) (at : Spot) where
-  tested_then : (t : Bool) (K : Left → Res Stopped Left Flow) (s : Left) → bind ((cond {A = Left → Res Stopped Left Flow} t (λ s. Go Next s) (λ s. Go Broken s)) s) (go_on K) ≡ (cond {A = Left → Res Stopped Left Flow} t K (λ s. Go Broken s)) s
+module _ (p : Program) (W : Mode) (n : ℕ) (at : Spot) where
+  tested_then : (t : Bool) (K : JudgedState → Res Stopped JudgedState Flow) (s : JudgedState) → bind ((cond {A = JudgedState → Res Stopped JudgedState Flow} t (λ s. Go Next s) (λ s. Go Broken s)) s) (go_on K) ≡ (cond {A = JudgedState → Res Stopped JudgedState Flow} t K (λ s. Go Broken s)) s
   tested_then true K s = refl
   tested_then false K s = refl
 
-  control_then : (e : Exp) (K : Left → Res Stopped Left Flow) (s : Left)
-      → bind (control p (havoc p I) (calls p I n) at e (λ s. Go Next s) (λ s. Go Broken s) s) (go_on K) ≡ control p (havoc p I) (calls p I n) at e K (λ s. Go Broken s) s
+  control_then : (e : Exp) (K : Turn) (s : JudgedState)
+      → bind (control p (judged p W) (calls p W n) at e (λ may s. Go Next s) (λ may s. Go Broken s) true s) (go_on (K true)) ≡ control p (judged p W) (calls p W n) at e K (λ may s. Go Broken s) true s
   control_then e K s =
-      let r : Res Stopped Left ℤ = full p (havoc p I) (calls p I n) at Used e s in
-      sym (after_both p r (λ z s. (cond {A = Left → Res Stopped Left Flow} (not (is_zero z)) (λ s. Go Next s) (λ s. Go Broken s)) s) (go_on K)) ∙ (λ i. bind r (λ z s. tested_then (not (is_zero z)) K s i))
+      let r : Res Stopped JudgedState ℤ = full p (judged p W) (calls p W n) at Used e s in
+      sym (after_both p r (λ z s. bind (tell p W (Branch at (Truth (not (is_zero z)))) s) (λ u. cond {A = JudgedState → Res Stopped JudgedState Flow} (not (is_zero z)) (λ s. Go Next s) (λ s. Go Broken s))) (go_on (K true)))
+      ∙ (λ i. bind r (λ z s. bind (tell p W (Branch at (Truth (not (is_zero z)))) s) (λ u s. tested_then (not (is_zero z)) (K true) s i)))
 
-  going_then : (o : Option Exp) (K : Left → Res Stopped Left Flow) (s : Left) → bind (going p (havoc p I) (calls p I n) at o (λ s. Go Next s) s) (go_on K) ≡ going p (havoc p I) (calls p I n) at o K s
+  going_then : (o : Option Exp) (K : Turn) (s : JudgedState) → bind (going p (judged p W) (calls p W n) at o (λ may s. Go Next s) true s) (go_on (K true)) ≡ going p (judged p W) (calls p W n) at o K true s
   going_then None K s = refl
   going_then (Some e) K s = control_then e K s
 
-  on_then : (f : Flow) (K : Left → Res Stopped Left Flow) (s : Left) → bind (go_on (λ s. Go Next s) f s) (go_on K) ≡ go_on K f s
+  on_then : (f : Flow) (K : JudgedState → Res Stopped JudgedState Flow) (s : JudgedState) → bind (go_on (λ s. Go Next s) f s) (go_on K) ≡ go_on K f s
   on_then Next K s = refl
   on_then Broken K s = refl
   on_then Again K s = refl
   on_then (Gave v) K s = refl
 
-  first_then : (i : First) (K : Left → Res Stopped Left Flow) (s : Left) → bind (first p (havoc p I) (calls p I n) at i (λ s. Go Next s) s) (go_on K) ≡ first p (havoc p I) (calls p I n) at i K s
+  first_then : (i : First) (K : Turn) (s : JudgedState) → bind (first p (judged p W) (calls p W n) at i (λ may s. Go Next s) true s) (go_on (K true)) ≡ first p (judged p W) (calls p W n) at i K true s
   first_then NoFirst K s = refl
-  first_then (FirstExp e) K s = sym (after_both p (full p (havoc p I) (calls p I n) at Unused e s) (λ z s. Go Next s) (go_on K))
+  first_then (FirstExp e) K s = sym (after_both p (full p (judged p W) (calls p W n) at Unused e s) (λ z s. Go Next s) (go_on (K true)))
   first_then (FirstNames ns) K s =
-      let r : Res Stopped Left Flow = declare p (havoc p I) (calls p I n) at ns s in
-      sym (after_both p r (go_on (λ s. Go Next s)) (go_on K)) ∙ (λ i. bind r (λ f s. on_then f K s i))
+      let r : Res Stopped JudgedState Flow = declare p (judged p W) (calls p W n) at ns true s in
+      sym (after_both p r (go_on (λ s. Go Next s)) (go_on (K true))) ∙ (λ i. bind r (λ f s. on_then f (K true) s i))
 
-module _ (p : Program) (I : List Placed) (n : ℕ) (gives : Option IntType) where
+module _ (p : Program) (W : Mode) (n : ℕ) (gives : Option IntType) where
   -- a bit that was kept is the net's as it was
-  module _ {i j : ℕ} {a b c : Sym} {f : (ℕ → Bool) → Stand → Stand} {m : Deed Flow} (kept bit : Bit) (e : kept ≡ bit) (h : IsIn a.net bit) (x : Became p 0 a b f) (y : Runs (Duties p I) p gives i j b c m) where
+  module _ {i j : ℕ} {a b c : Sym} {f : (ℕ → Bool) → Stand → Stand} {m : Deed Flow} (kept bit : Bit) (e : kept ≡ bit) (h : IsIn a.net bit) (x : Became p 0 a b f) (y : Runs W.duties p gives i j b c m) where
     pub stays_in : IsIn c.net kept
     stays_in = subst (IsIn c.net) (sym e) (in_added y.added bit (in_added x.added bit h))
 
@@ -93,143 +97,92 @@ module _ (p : Program) (I : List Placed) (n : ℕ) (gives : Option IntType) wher
     kept_holds v = ap (holds v c.net) e ∙ holds_added y.added v bit (in_added x.added bit h) ∙ holds_added x.added v bit h
 
   -- ---- a loop's body
-  pub body_starts : {a b : Sym} {x : Stm} → BodyReady p I n gives a x → Became p 0 a b (λ v. fresh_again) → Ready p I n gives b x
+  pub body_starts : {a b : Sym} {x : Stm} → BodyReady p W n gives a x → Became p 0 a b (λ v. fresh_again) → Ready p W n gives b x
   body_starts h x = record { fits = x.fits; result = x.result ∙ h.result; types = h.types; room = omega (arith, h.room, (longer_by x.added).1) }
 
-  pub body_ends : {a b c : Sym} {x : Stm} → BodyReady p I n gives a x → Became p 0 a b (λ v. fresh_again) → Does p I n gives x b c → length c.net < 2 ^ 27
+  pub body_ends : {a b c : Sym} {x : Stm} → BodyReady p W n gives a x → Became p 0 a b (λ v. fresh_again) → Does p W n gives x b c → length c.net < 2 ^ 27
   body_ends h x y = omega (arith, h.room, (longer_by x.added).1, (longer_by y.added).1)
 
-  pub body_does : {a b c d : Sym} {x : Stm} (kept : Bit) (cells : ℕ) → BodyReady p I n gives a x → kept ≡ a.again → cells ≡ length a.cells.items → Became p 0 a b (λ v. fresh_again) → Does p I n gives x b c
-      → Became p 1 c d (λ v. behind_body (holds v c.net kept) cells) → BodyDoes p I n gives x a d
+  pub body_does : {a b c d : Sym} {x : Stm} (kept : Bit) (cells : ℕ) → BodyReady p W n gives a x → kept ≡ a.again → cells ≡ length a.cells.items → Became p 0 a b (λ v. fresh_again) → Does p W n gives x b c
+      → Became p 1 c d (λ v. behind_body (holds v c.net kept) cells) → BodyDoes p W n gives x a d
   body_does {a} {b} {c} {d} kept cells h ek en x y z =
-      runs_as p (Duties p I) gives
-      (continued_runs p (Duties p I) gives x y
+      runs_as p W.duties gives
+      (continued_runs p W.duties gives x y
       (became_as (λ v. behind_body (stand p v a).again (length a.cells.items)) z (λ v s. ap₂ (λ k n. behind_body k n s) (kept_holds kept a.again ek h.fits.again x y v) en)))
       (λ v s. refl) (omega arith) (omega arith)
 
   -- ---- one turn
-  pub while_tests : {a : Sym} {e : Exp} {x : Stm} → TurnReady p I n gives a (Some (WhileLoop e x)) → TestReady p I n a e
+  pub while_tests : {a : Sym} {e : Exp} {x : Stm} → TurnReady p W n gives a (Some (WhileLoop e x)) → TestReady p W n a e
   while_tests {e = e} {x = x} h =
       let t = both (is_test p (Some e)) (every_statement (statement_fits p gives) x) h.types in
       let q = both (has_value e) (is_typed p e) t.0 in
       record { fits = h.fits; types = q.1; value = q.0; room = omega (arith, h.room) }
 
-  pub while_goes_on : {a b : Sym} {e : Exp} {x : Stm} (at : Spot) → TurnReady p I n gives a (Some (WhileLoop e x)) → TestDoes p I n at e a b → BodyReady p I n gives b x
+  pub while_goes_on : {a b : Sym} {e : Exp} {x : Stm} (at : Spot) → TurnReady p W n gives a (Some (WhileLoop e x)) → TestDoes p W n at e a b → BodyReady p W n gives b x
   while_goes_on {e = e} {x = x} at h y =
       let r = y gives in
       record { fits = r.fits; result = r.result ∙ h.result; types = (both (is_test p (Some e)) (every_statement (statement_fits p gives) x) h.types).1; room = omega (arith, h.room, (longer_by r.added).1) }
 
-  pub while_does : {a b c : Sym} (at : Spot) (e : Exp) (x : Stm) → TestDoes p I n at e a b → BodyDoes p I n gives x b c → TurnDoes p I n gives at (Some (WhileLoop e x)) a c
+  pub while_does : {a b c : Sym} (at : Spot) (e : Exp) (x : Stm) → TestDoes p W n at e a b → BodyDoes p W n gives x b c → TurnDoes p W n gives at (Some (WhileLoop e x)) a c
   while_does at e x y z =
       let l : Option Loop = Some (WhileLoop e x) in
-      runs_as p (Duties p I) gives (runs_then p (Duties p I) gives (turn_glue + weight_of_turn p I n gives l) (bits_of_turn p I n gives l) (y gives) z (omega arith) (omega arith))
-      (λ v s. control_then p I n at e (continued Stopped Left cells_left with_cells_left (exec p (havoc p I) (calls p I n) gives x)) s) (omega arith) (omega arith)
+      runs_as p W.duties gives (runs_then p W.duties gives (turn_glue + weight_of_turn p W n gives l) (bits_of_turn p W n gives l) (y gives) z (omega arith) (omega arith))
+      (λ v s. control_then p W n at e (λ may. body_of p W may (exec p (judged p W) (calls p W n) gives x)) s) (omega arith) (omega arith)
 
-  pub do_starts : {a : Sym} {e : Exp} {x : Stm} → TurnReady p I n gives a (Some (DoLoop x e)) → BodyReady p I n gives a x
+  pub do_starts : {a : Sym} {e : Exp} {x : Stm} → TurnReady p W n gives a (Some (DoLoop x e)) → BodyReady p W n gives a x
   do_starts {e = e} {x = x} h = record { fits = h.fits; result = h.result; types = (both (is_test p (Some e)) (every_statement (statement_fits p gives) x) h.types).1; room = omega (arith, h.room) }
 
-  pub do_tests : {a b : Sym} {e : Exp} {x : Stm} → TurnReady p I n gives a (Some (DoLoop x e)) → BodyDoes p I n gives x a b → TestReady p I n b e
+  pub do_tests : {a b : Sym} {e : Exp} {x : Stm} → TurnReady p W n gives a (Some (DoLoop x e)) → BodyDoes p W n gives x a b → TestReady p W n b e
   do_tests {e = e} {x = x} h y =
       let t = both (is_test p (Some e)) (every_statement (statement_fits p gives) x) h.types in
       let q = both (has_value e) (is_typed p e) t.0 in
       record { fits = y.fits; types = q.1; value = q.0; room = omega (arith, h.room, (longer_by y.added).1) }
 
-  pub do_does : {a b c : Sym} (at : Spot) (e : Exp) (x : Stm) → BodyDoes p I n gives x a b → TestDoes p I n at e b c → TurnDoes p I n gives at (Some (DoLoop x e)) a c
+  pub do_does : {a b c : Sym} (at : Spot) (e : Exp) (x : Stm) → BodyDoes p W n gives x a b → TestDoes p W n at e b c → TurnDoes p W n gives at (Some (DoLoop x e)) a c
   do_does at e x y z =
       let l : Option Loop = Some (DoLoop x e) in
-      runs_as p (Duties p I) gives (runs_then p (Duties p I) gives (turn_glue + weight_of_turn p I n gives l) (bits_of_turn p I n gives l) y (z gives) (omega arith) (omega arith)) (λ v s. refl) (omega arith) (omega arith)
+      runs_as p W.duties gives (runs_then p W.duties gives (turn_glue + weight_of_turn p W n gives l) (bits_of_turn p W n gives l) y (z gives) (omega arith) (omega arith)) (λ v s. refl) (omega arith) (omega arith)
 
-  pub for_tests : {a : Sym} {e s : Option Exp} {x : Stm} → TurnReady p I n gives a (Some (ForLoop e s x)) → TestIfReady p I n a e
+  pub for_tests : {a : Sym} {e s : Option Exp} {x : Stm} → TurnReady p W n gives a (Some (ForLoop e s x)) → TestIfReady p W n a e
   for_tests {e = e} {s = s} {x = x} h = record { fits = h.fits; types = (both (is_test p e) (is_typed_if p s && every_statement (statement_fits p gives) x) h.types).0; room = omega (arith, h.room) }
 
-  pub for_goes_on : {a b : Sym} {e s : Option Exp} {x : Stm} (at : Spot) → TurnReady p I n gives a (Some (ForLoop e s x)) → TestIfDoes p I n at e a b → BodyReady p I n gives b x
+  pub for_goes_on : {a b : Sym} {e s : Option Exp} {x : Stm} (at : Spot) → TurnReady p W n gives a (Some (ForLoop e s x)) → TestIfDoes p W n at e a b → BodyReady p W n gives b x
   for_goes_on {e = e} {s = s} {x = x} at h y =
       let r = y gives in
       let t = both (is_test p e) (is_typed_if p s && every_statement (statement_fits p gives) x) h.types in
       record { fits = r.fits; result = r.result ∙ h.result; types = (both (is_typed_if p s) (every_statement (statement_fits p gives) x) t.1).1; room = omega (arith, h.room, (longer_by r.added).1) }
 
-  pub for_steps : {a b c : Sym} {e s : Option Exp} {x : Stm} (at : Spot) → TurnReady p I n gives a (Some (ForLoop e s x)) → TestIfDoes p I n at e a b → BodyDoes p I n gives x b c → StepReady p I n c s
+  pub for_steps : {a b c : Sym} {e s : Option Exp} {x : Stm} (at : Spot) → TurnReady p W n gives a (Some (ForLoop e s x)) → TestIfDoes p W n at e a b → BodyDoes p W n gives x b c → StepReady p W n c s
   for_steps {e = e} {s = s} {x = x} at h y z =
       let r = y gives in
       let t = both (is_test p e) (is_typed_if p s && every_statement (statement_fits p gives) x) h.types in
       record { fits = z.fits; types = (both (is_typed_if p s) (every_statement (statement_fits p gives) x) t.1).0; room = omega (arith, h.room, (longer_by r.added).1, (longer_by z.added).1) }
 
-  pub for_turn_does : {a b c d : Sym} (at : Spot) (e s : Option Exp) (x : Stm) → TestIfDoes p I n at e a b → BodyDoes p I n gives x b c → StepDoes p I n at s c d → TurnDoes p I n gives at (Some (ForLoop e s x)) a d
+  pub for_turn_does : {a b c d : Sym} (at : Spot) (e s : Option Exp) (x : Stm) → TestIfDoes p W n at e a b → BodyDoes p W n gives x b c → StepDoes p W n at s c d → TurnDoes p W n gives at (Some (ForLoop e s x)) a d
   for_turn_does at e s x y z w =
       let l : Option Loop = Some (ForLoop e s x) in
-      let body : Left → Res Stopped Left Flow = continued Stopped Left cells_left with_cells_left (exec p (havoc p I) (calls p I n) gives x) in
-      let step : Left → Res Stopped Left Flow = full_if p (havoc p I) (calls p I n) at s (λ s. Go Next s) in
-      let rest = runs_then p (Duties p I) gives (1 + weight_of p I n gives x + weight_of_step p I n s) (bits_of p I n gives x + bits_of_step p I n s) z (w gives) (omega arith) (omega arith) in
-      runs_as p (Duties p I) gives (runs_then p (Duties p I) gives (turn_glue + weight_of_turn p I n gives l) (bits_of_turn p I n gives l) (y gives) rest (omega arith) (omega arith))
-      (λ v t. going_then p I n at e (λ t. bind (body t) (go_on step)) t) (omega arith) (omega arith)
+      let body : Turn = λ may. body_of p W may (exec p (judged p W) (calls p W n) gives x) in
+      let step : Turn = full_if p (judged p W) (calls p W n) at s (λ may s. Go Next s) in
+      let rest = runs_then p W.duties gives (1 + weight_of p W n gives x + weight_of_step p W n s) (bits_of p W n gives x + bits_of_step p W n s) z (w gives) (omega arith) (omega arith) in
+      runs_as p W.duties gives (runs_then p W.duties gives (turn_glue + weight_of_turn p W n gives l) (bits_of_turn p W n gives l) (y gives) rest (omega arith) (omega arith))
+      (λ v t. going_then p W n at e (λ may t. bind (body may t) (go_on (step may))) t) (omega arith) (omega arith)
 
   -- where there is no loop
-  pub no_turn : {a : Sym} (at : Spot) → TurnReady p I n gives a None → TurnDoes p I n gives at None a a
-  no_turn {a} at h = runs_as p (Duties p I) gives (skip_runs p (Duties p I) gives a h.fits) (λ v s. refl) (omega arith) (omega arith)
-
-  -- ---- the whole
-  pub head_room : {a b : Sym} (at : Spot) (l : Option Loop) → LoopReady p I n gives at a l → Became p 0 a b (λ v. fresh_broken) → length b.net + (2 * placed_weight p I true at + 5 * changed_bits p l) < 2 ^ 27
-  head_room at l h x = omega (arith, h.room, (longer_by x.added).1)
-
-  -- how long the net is behind the head
-  head_longer : {b c : Sym} (at : Spot) (l : Option Loop) → HeadDoes p I at l b c → length c.net ≤ length b.net + (2 * placed_weight p I true at + 5 * changed_bits p l)
-  head_longer at l h = omega (arith, (longer_by h.entry.added).1, (longer_by h.draws.added).1, (longer_by h.assumed.added).1)
-
-  pub turn_starts : {a b c : Sym} (at : Spot) (l : Option Loop) → LoopReady p I n gives at a l → Became p 0 a b (λ v. fresh_broken) → HeadDoes p I at l b c → TurnReady p I n gives c l
-  turn_starts at l h x y = record {
-    fits = y.assumed.fits;
-    result = y.assumed.result ∙ y.draws.result ∙ y.entry.result ∙ x.result ∙ h.result;
-    types = h.types;
-    room = omega (arith, h.room, (longer_by x.added).1, head_longer at l y);
-  }
-
-  -- back at the head
-  pub head_room_again : {a b c d : Sym} (at : Spot) (l : Option Loop) → LoopReady p I n gives at a l → Became p 0 a b (λ v. fresh_broken) → HeadDoes p I at l b c → TurnDoes p I n gives at l c d → length d.net + placed_weight p I true at + 2 < 2 ^ 27
-  head_room_again at l h x y z = omega (arith, h.room, (longer_by x.added).1, head_longer at l y, (longer_by z.added).1)
-
-  module _ {a b c d e f : Sym} (at : Spot) (l : Option Loop) (h : LoopReady p I n gives at a l) (x : Became p 0 a b (λ v. fresh_broken)) (y : HeadDoes p I at l b c) (z : TurnDoes p I n gives at l c d)
-      (t : Follows (Duties p I) p (placed_weight p I true at) 0 d e (λ v u. Unit {0}) (λ v. test_from p I 0 I true at KeptKind)) (u : Ends p I 1 e f (end_of p I)) (kept : Bit) (ek : kept ≡ a.broken) where
-    -- the bit of the loop around is the net's as it was
-    outer_in : IsIn f.net a.broken
-    outer_in = in_added u.added a.broken (in_added t.added a.broken (in_added z.added a.broken (in_added y.assumed.added a.broken (in_added y.draws.added a.broken (in_added y.entry.added a.broken (in_added x.added a.broken h.fits.broken))))))
-
-    pub outer_kept : IsIn f.net kept
-    outer_kept = subst (IsIn f.net) (sym ek) outer_in
-
-    outer_holds : (v : ℕ → Bool) → holds v f.net kept ≡ holds v a.net a.broken
-    outer_holds v =
-        let i1 = in_added x.added a.broken h.fits.broken in
-        let i2 = in_added y.entry.added a.broken i1 in
-        let i3 = in_added y.draws.added a.broken i2 in
-        let i4 = in_added y.assumed.added a.broken i3 in
-        let i5 = in_added z.added a.broken i4 in
-        let i6 = in_added t.added a.broken i5 in
-        ap (holds v f.net) ek ∙ holds_added u.added v a.broken i6 ∙ holds_added t.added v a.broken i5 ∙ holds_added z.added v a.broken i4 ∙ holds_added y.assumed.added v a.broken i3
-        ∙ holds_added y.draws.added v a.broken i2 ∙ holds_added y.entry.added v a.broken i1 ∙ holds_added x.added v a.broken h.fits.broken
-
-    -- runs at the head again end, and those that left the loop go on behind it
-    pub loop_ends : {g : Sym} (cells : ℕ) → cells ≡ length a.cells.items → Became p 1 f g (λ v. behind_loop (holds v f.net kept) cells) → Became p 1 f g (λ v. behind_loop (stand p v a).broken (length a.cells.items))
-    loop_ends cells en w = became_as (λ v. behind_loop (stand p v a).broken (length a.cells.items)) w (λ v s. ap₂ (λ k n. behind_loop k n s) (outer_holds v) en)
-
-  pub loop_does : {a b c d e f g : Sym} (at : Spot) (l : Option Loop) → LoopReady p I n gives at a l → Became p 0 a b (λ v. fresh_broken) → HeadDoes p I at l b c → TurnDoes p I n gives at l c d
-      → Follows (Duties p I) p (placed_weight p I true at) 0 d e (λ v u. Unit {0}) (λ v. test_from p I 0 I true at KeptKind) → Ends p I 1 e f (end_of p I)
-      → Became p 1 f g (λ v. behind_loop (stand p v a).broken (length a.cells.items)) → LoopDoes p I n gives at l a g
-  loop_does at None h x y z t u w = neither h.is
-  loop_does at (Some l) h x y z t u w =
-      loop_runs p (Duties p I) gives I (loop_glue + weight_of_loop p I n gives at (Some l)) (bits_of_loop p I n gives at (Some l)) at l (turn p (havoc p I) (calls p I n) gives at l) x y.entry y.draws y.assumed z t u w (omega arith) (omega arith)
+  pub no_turn : {a : Sym} (at : Spot) → TurnReady p W n gives a None → TurnDoes p W n gives at None a a
+  no_turn {a} at h = runs_as p W.duties gives (skip_runs p W.duties gives a h.fits) (λ v s. refl) (omega arith) (omega arith)
 
   -- ---- a `for`
-  pub for_starts : {a : Sym} (at : Spot) (i : First) (l : Option Loop) → ForReady p I n gives at a i l → FirstReady p I n a i
+  pub for_starts : {a : Sym} (at : Spot) (i : First) (l : Option Loop) → ForReady p W n gives at a i l → FirstReady p W n a i
   for_starts at i l h = record { fits = h.fits; types = h.first_types; room = omega (arith, h.room) }
 
-  pub for_arrives : {a b : Sym} (at : Spot) (i : First) (l : Option Loop) → ForReady p I n gives at a i l → FirstDoes p I n at i a b → LoopReady p I n gives at b l
+  pub for_arrives : {a b : Sym} (at : Spot) (i : First) (l : Option Loop) → ForReady p W n gives at a i l → FirstDoes p W n at i a b → LoopReady p W n gives at b l
   for_arrives at i l h y = let r = y gives in record { fits = r.fits; result = r.result ∙ h.result; is = h.is; types = h.types; room = omega (arith, h.room, (longer_by r.added).1) }
 
-  pub for_does : {a b c d : Sym} (at : Spot) (i : First) (l : Option Loop) (cells : ℕ) → ForReady p I n gives at a i l → FirstDoes p I n at i a b → LoopDoes p I n gives at l b c → cells ≡ length a.cells.items
-      → Became p 0 c d (λ v. cut_to cells) → ForDoes p I n gives at i l a d
+  pub for_does : {a b c d : Sym} (at : Spot) (i : First) (l : Option Loop) (cells : ℕ) → ForReady p W n gives at a i l → FirstDoes p W n at i a b → LoopDoes p W n gives at l b c → cells ≡ length a.cells.items
+      → Became p 0 c d (λ v. cut_to cells) → ForDoes p W n gives at i l a d
   for_does {a = a} at i l cells h y z en w =
-      let whole = runs_then p (Duties p I) gives (loop_glue + (weight_of_first p I n i + weight_of_loop p I n gives at l)) (bits_of_first p I n i + bits_of_loop p I n gives at l) (y gives) z (omega arith) (omega arith) in
-      scoped_runs p (Duties p I) gives h.fits (runs_as p (Duties p I) gives whole (λ v s. first_then p I n at i (looped p I n gives at l) s) (omega arith) (omega arith))
+      let whole = runs_then p W.duties gives (loop_glue + (weight_of_first p W n i + weight_of_loop p W n gives at l)) (bits_of_first p W n i + bits_of_loop p W n gives at l) (y gives) z (omega arith) (omega arith) in
+      scoped_runs p W.duties gives h.fits (runs_as p W.duties gives whole (λ v s. first_then p W n at i (looped p W n gives at l) s) (omega arith) (omega arith))
       (became_as (λ v. cut_to (length a.cells.items)) w (λ v s. ap (λ k. cut_to k s) en))
 
   -- ---- what is typed of a statement that is a loop
@@ -273,13 +226,13 @@ module _ (p : Program) (I : List Placed) (n : ℕ) (gives : Option IntType) wher
   loop_types at f h t = neither h
 
   -- ---- statements that are loops
-  pub for_ready : {a : Sym} (at : Spot) (i : First) (o s : Option Exp) (b : Stm) → FormReady p I n gives at a (For i o s b) → ForReady p I n gives at a i (Some (ForLoop o s b))
+  pub for_ready : {a : Sym} (at : Spot) (i : First) (o s : Option Exp) (b : Stm) → FormReady p W n gives at a (For i o s b) → ForReady p W n gives at a i (Some (ForLoop o s b))
   for_ready at i o s b h = let t = for_types at i o s b h.types in record { fits = h.fits; result = h.result; is = refl; first_types = t.0; types = t.1; room = omega (arith, h.room) }
 
-  pub for_form : {a b : Sym} (at : Spot) (i : First) (o s : Option Exp) (x : Stm) → ForDoes p I n gives at i (Some (ForLoop o s x)) a b → FormDoes p I n gives at (For i o s x) a b
-  for_form at i o s x y = runs_as p (Duties p I) gives y (λ v s. refl) (omega arith) (omega arith)
+  pub for_form : {a b : Sym} (at : Spot) (i : First) (o s : Option Exp) (x : Stm) → ForDoes p W n gives at i (Some (ForLoop o s x)) a b → FormDoes p W n gives at (For i o s x) a b
+  for_form at i o s x y = runs_as p W.duties gives y (λ v s. refl) (omega arith) (omega arith)
 
-  loop_room : {a : Sym} (at : Spot) (f : Form) → IsTrue (is_loop f) → FormReady p I n gives at a f → length a.net + (loop_glue + (weight_of_loop p I n gives at (loop_of f) + bits_of_loop p I n gives at (loop_of f))) < 2 ^ 27
+  loop_room : {a : Sym} (at : Spot) (f : Form) → IsTrue (is_loop f) → FormReady p W n gives at a f → length a.net + (loop_glue + (weight_of_loop p W n gives at (loop_of f) + bits_of_loop p W n gives at (loop_of f))) < 2 ^ 27
   loop_room at (While e b) h r = omega (arith, r.room)
   loop_room at (DoWhile b e) h r = omega (arith, r.room)
   loop_room at (For i o s b) h r = omega (arith, r.room)
@@ -291,24 +244,79 @@ module _ (p : Program) (I : List Placed) (n : ℕ) (gives : Option IntType) wher
   loop_is (For i o s b) h = refl
   loop_is f h = neither h
 
-  pub loop_ready : {a : Sym} (at : Spot) (f : Form) → IsTrue (is_loop f) → FormReady p I n gives at a f → LoopReady p I n gives at a (loop_of f)
+  pub loop_ready : {a : Sym} (at : Spot) (f : Form) → IsTrue (is_loop f) → FormReady p W n gives at a f → LoopReady p W n gives at a (loop_of f)
   loop_ready at f h r = record { fits = r.fits; result = r.result; is = loop_is f h; types = loop_types at f h r.types; room = loop_room at f h r }
 
   -- a loop weighs no more than its statement
-  pub loop_within : (at : Spot) (f : Form) → IsTrue (is_loop f) → weight_of_loop p I n gives at (loop_of f) ≤ weight_of_form p I n gives at f
+  pub loop_within : (at : Spot) (f : Form) → IsTrue (is_loop f) → weight_of_loop p W n gives at (loop_of f) ≤ weight_of_form p W n gives at f
   loop_within at (While e b) h = omega arith
   loop_within at (DoWhile b e) h = omega arith
   loop_within at (For i o s b) h = omega arith
   loop_within at f h = neither h
 
-  pub for_within : (at : Spot) (i : First) (o s : Option Exp) (b : Stm) (f : Form) → f ≡ For i o s b → weight_of_first p I n i + weight_of_loop p I n gives at (loop_of f) ≤ weight_of_form p I n gives at f
-  for_within at i o s b f e = subst (λ f. weight_of_first p I n i + weight_of_loop p I n gives at (loop_of f) ≤ weight_of_form p I n gives at f) (sym e) (omega arith)
+  pub for_within : (at : Spot) (i : First) (o s : Option Exp) (b : Stm) (f : Form) → f ≡ For i o s b → weight_of_first p W n i + weight_of_loop p W n gives at (loop_of f) ≤ weight_of_form p W n gives at f
+  for_within at i o s b f e = subst (λ f. weight_of_first p W n i + weight_of_loop p W n gives at (loop_of f) ≤ weight_of_form p W n gives at f) (sym e) (omega arith)
 
-  pub while_form : {a b : Sym} (at : Spot) (e : Exp) (x : Stm) → LoopDoes p I n gives at (Some (WhileLoop e x)) a b → FormDoes p I n gives at (While e x) a b
-  while_form at e x y = runs_as p (Duties p I) gives y (λ v s. refl) (omega arith) (omega arith)
+  pub while_form : {a b : Sym} (at : Spot) (e : Exp) (x : Stm) → LoopDoes p W n gives at (Some (WhileLoop e x)) a b → FormDoes p W n gives at (While e x) a b
+  while_form at e x y = runs_as p W.duties gives y (λ v s. refl) (omega arith) (omega arith)
 
-  pub do_form : {a b : Sym} (at : Spot) (e : Exp) (x : Stm) → LoopDoes p I n gives at (Some (DoLoop x e)) a b → FormDoes p I n gives at (DoWhile x e) a b
-  do_form at e x y = runs_as p (Duties p I) gives y (λ v s. refl) (omega arith) (omega arith)
+  pub do_form : {a b : Sym} (at : Spot) (e : Exp) (x : Stm) → LoopDoes p W n gives at (Some (DoLoop x e)) a b → FormDoes p W n gives at (DoWhile x e) a b
+  do_form at e x y = runs_as p W.duties gives y (λ v s. refl) (omega arith) (omega arith)
+
+-- ---- the whole, in the mode of obligations
+module _ (p : Program) (I : List Placed) (n : ℕ) (gives : Option IntType) where
+  abbrev W : Mode
+  W = obliging p I
+
+  pub head_room : {a b : Sym} (at : Spot) (l : Option Loop) → LoopReady p W n gives at a l → Became p 0 a b (λ v. fresh_broken) → length b.net + (2 * placed_weight p I true at + 5 * changed_bits p l) < 2 ^ 27
+  head_room at l h x = omega (arith, h.room, (longer_by x.added).1)
+
+  -- how long the net is behind the head
+  head_longer : {b c : Sym} (at : Spot) (l : Option Loop) → HeadDoes p I at l b c → length c.net ≤ length b.net + (2 * placed_weight p I true at + 5 * changed_bits p l)
+  head_longer at l h = omega (arith, (longer_by h.entry.added).1, (longer_by h.draws.added).1, (longer_by h.assumed.added).1)
+
+  pub turn_starts : {a b c : Sym} (at : Spot) (l : Option Loop) → LoopReady p W n gives at a l → Became p 0 a b (λ v. fresh_broken) → HeadDoes p I at l b c → TurnReady p W n gives c l
+  turn_starts at l h x y = record {
+    fits = y.assumed.fits;
+    result = y.assumed.result ∙ y.draws.result ∙ y.entry.result ∙ x.result ∙ h.result;
+    types = h.types;
+    room = omega (arith, h.room, (longer_by x.added).1, head_longer at l y);
+  }
+
+  -- back at the head
+  pub head_room_again : {a b c d : Sym} (at : Spot) (l : Option Loop) → LoopReady p W n gives at a l → Became p 0 a b (λ v. fresh_broken) → HeadDoes p I at l b c → TurnDoes p W n gives at l c d → length d.net + placed_weight p I true at + 2 < 2 ^ 27
+  head_room_again at l h x y z = omega (arith, h.room, (longer_by x.added).1, head_longer at l y, (longer_by z.added).1)
+
+  module _ {a b c d e f : Sym} (at : Spot) (l : Option Loop) (h : LoopReady p W n gives at a l) (x : Became p 0 a b (λ v. fresh_broken)) (y : HeadDoes p I at l b c) (z : TurnDoes p W n gives at l c d)
+      (t : Follows W.duties p (placed_weight p I true at) 0 d e (λ v u. Unit {0}) (λ v. test_from p I 0 I true at KeptKind)) (u : Ends p W 1 e f (end_of p W)) (kept : Bit) (ek : kept ≡ a.broken) where
+    -- the bit of the loop around is the net's as it was
+    outer_in : IsIn f.net a.broken
+    outer_in = in_added u.added a.broken (in_added t.added a.broken (in_added z.added a.broken (in_added y.assumed.added a.broken (in_added y.draws.added a.broken (in_added y.entry.added a.broken (in_added x.added a.broken h.fits.broken))))))
+
+    pub outer_kept : IsIn f.net kept
+    outer_kept = subst (IsIn f.net) (sym ek) outer_in
+
+    outer_holds : (v : ℕ → Bool) → holds v f.net kept ≡ holds v a.net a.broken
+    outer_holds v =
+        let i1 = in_added x.added a.broken h.fits.broken in
+        let i2 = in_added y.entry.added a.broken i1 in
+        let i3 = in_added y.draws.added a.broken i2 in
+        let i4 = in_added y.assumed.added a.broken i3 in
+        let i5 = in_added z.added a.broken i4 in
+        let i6 = in_added t.added a.broken i5 in
+        ap (holds v f.net) ek ∙ holds_added u.added v a.broken i6 ∙ holds_added t.added v a.broken i5 ∙ holds_added z.added v a.broken i4 ∙ holds_added y.assumed.added v a.broken i3
+        ∙ holds_added y.draws.added v a.broken i2 ∙ holds_added y.entry.added v a.broken i1 ∙ holds_added x.added v a.broken h.fits.broken
+
+    -- runs at the head again end, and those that left the loop go on behind it
+    pub loop_ends : {g : Sym} (cells : ℕ) → cells ≡ length a.cells.items → Became p 1 f g (λ v. behind_loop (holds v f.net kept) cells) → Became p 1 f g (λ v. behind_loop (stand p v a).broken (length a.cells.items))
+    loop_ends cells en w = became_as (λ v. behind_loop (stand p v a).broken (length a.cells.items)) w (λ v s. ap₂ (λ k n. behind_loop k n s) (outer_holds v) en)
+
+  pub loop_does : {a b c d e f g : Sym} (at : Spot) (l : Option Loop) → LoopReady p W n gives at a l → Became p 0 a b (λ v. fresh_broken) → HeadDoes p I at l b c → TurnDoes p W n gives at l c d
+      → Follows W.duties p (placed_weight p I true at) 0 d e (λ v u. Unit {0}) (λ v. test_from p I 0 I true at KeptKind) → Ends p W 1 e f (end_of p W)
+      → Became p 1 f g (λ v. behind_loop (stand p v a).broken (length a.cells.items)) → LoopDoes p W n gives at l a g
+  loop_does at None h x y z t u w = neither h.is
+  loop_does at (Some l) h x y z t u w =
+      loop_runs p W.duties gives I (loop_glue + weight_of_loop p W n gives at (Some l)) (bits_of_loop p W n gives at (Some l)) at l (turn p (judged p W) (calls p W n) gives at l true) x y.entry y.draws y.assumed z t u w (omega arith) (omega arith)
 
 -- ---- a loop's head
 pub head_does : {a b c d : Sym} (p : Program) (I : List Placed) (at : Spot) (l : Option Loop) (os : List ℕ) → os ≡ changed_if p l

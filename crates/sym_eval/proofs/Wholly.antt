@@ -1,5 +1,5 @@
 -- Main's body, from the first state.
-use Rattle.std.proofs.Common.{◌≡◌, ℕ, zero, suc, ◌+◌, ◌<◌, ◌^◌, IsTrue, List, [], ◌∷◌, length, length-append, refl, sym, ◌∙◌, ap, subst, arith, Option, Some, None, slice_get, get_or, unwrap_or, true≢false}
+use Rattle.std.proofs.Common.{◌≡◌, ℕ, zero, suc, ◌+◌, ◌<◌, ◌^◌, ℤ, Bool, IsTrue, List, [], ◌∷◌, length, length-append, refl, sym, ◌∙◌, ap, subst, arith, Option, Some, None, slice_get, get_or, unwrap_or, true≢false, true}
 use Rattle.std.specs.List.{All}
 use Rattle.std.specs.Option.{option_map}
 use Rattle.std.proofs.lemmas.Option.{slice_get_read, slice_get_within, slice_get-map}
@@ -13,8 +13,12 @@ use Rattle.c_core.specs.declared.number.IntType.{IntType}
 use Rattle.c_core.specs.declared.number.Spot.{Spot}
 use Rattle.c_meaning.specs.declared.run.Duty.{Duty}
 use Rattle.c_meaning.specs.Duties.{Placed, Duties}
+use Rattle.c_meaning.specs.Havoc.{Havoc, havoc_run}
+use Rattle.c_meaning.specs.Replay.{values_of}
 use Rattle.c_meaning.specs.Exec.{run_if}
-use Rattle.c_meaning.specs.Havoc.{havoc}
+use Rattle.sym_meaning.specs.Mode.{Mode}
+use Rattle.sym_meaning.specs.Judged.{judged, judged_in}
+use Rattle.sym_meaning.specs.Obliging.{obliging, as_havoc, IsHavocRun}
 use Rattle.c_meaning.specs.Objects.{type_or_int}
 use Rattle.c_meaning.specs.Run.{first_cells}
 use Rattle.c_meaning.proofs.TypeFacts.{at_every}
@@ -24,19 +28,21 @@ use Rattle.circuits.proofs.Nets.{count_ands-append, inputs-append}
 use Rattle.sym_eval.specs.Doing.{weight_of_form, bits_of_form, FormReady, FormDoes}
 use Rattle.sym_eval.specs.Whole.{IsLight, IsWhole, AreMade}
 use Rattle.sym_duties.specs.Answers.{names_of}
-use Rattle.sym_duties.specs.Promise.{StandsFor}
+use Rattle.sym_duties.specs.Promise.{StandsFor, Tells}
+use Rattle.sym_state.specs.Standing.{draws_at}
 use Rattle.sym_flow.specs.Calling.{Enters}
 use Rattle.sym_state.specs.declared.state.DrawSite.{DrawSite}
 use Rattle.sym_state.specs.declared.state.Sym.{Sym}
 use Rattle.sym_weight.specs.Sum.{function_of}
 use Rattle.sym_weight.specs.Weight.{Weight, Bits, weighing, drawing, weight_in, bits_in, placed_weight, nowhere, most_active}
 use Rattle.sym_weight.proofs.Light.{bits_are_light}
+use Rattle.sym_whole.specs.Deciding as whole
 use Rattle.sym_whole.specs.Deciding.{IsStart, Decides}
 use Rattle.sym_whole.specs.Starting.{IsFirst}
 use Rattle.sym_whole.proofs.Wholes.{decides, larger}
 
 -- with fresh bits for main's ways out, each run still sets out
-entered_start : {p : Program} {ds : List _} {start : List _} {ty : IntType} {a b : Sym} → IsStart ds p start a → Enters p ty a b → IsStart ds p start b
+entered_start : {p : Program} {ds : List _} {start : List _} {before : List _} {ty : IntType} {a b : Sym} → IsStart ds p start before a → Enters p ty a b → IsStart ds p start before b
 entered_start x e = record {
   here = λ v. record {
     live = ap (λ s. s.live) (e.is v) ∙ (x.here v).live;
@@ -47,20 +53,24 @@ entered_start x e = record {
   };
   cells = λ v. ap (λ s. s.cells) (e.is v) ∙ x.cells v;
   draws = λ v. ap (λ s. s.draws) (e.is v) ∙ x.draws v;
+  completed = λ v. ap (λ s. s.completed) (e.is v) ∙ x.completed v;
 }
 
 module _ (p : Program) (I : List Placed) (r : _) (ps : List ℕ) (at : Spot) (f : Form) (main : slice_get p.functions p.main ≡ Some (record { result = r; params = ps; body = Stmt at f })) where
+  abbrev W : Mode
+  W = obliging p I
+
   abbrev n : ℕ
   n = length p.functions
 
-  weight_is : Weight p I ≡ 64 + weight_of_form p I n r at f
+  weight_is : Weight p I ≡ 64 + weight_of_form p W n r at f
   weight_is = ap (function_of p (weighing (weight_in p I n)) (placed_weight p I)) main
 
-  bits_are : Bits p ≡ 0 + bits_of_form p I n r at f
+  bits_are : Bits p ≡ 0 + bits_of_form p W n r at f
   bits_are = ap (function_of p (drawing (bits_in p n)) nowhere) main
 
   module _ {count : ℕ} {a b : Sym} (first : IsFirst p count a) (e : Enters p (type_or_int r) a b) where
-    pub main_ready : IsProgram p → IsLight p I → FormReady p I n r at b f
+    pub main_ready : IsProgram p → IsLight p I → FormReady p W n r at b f
     main_ready h light = record {
       fits = e.fits;
       result = e.result;
@@ -68,7 +78,7 @@ module _ (p : Program) (I : List Placed) (r : _) (ps : List ℕ) (at : Spot) (f 
       room = omega (arith, light, bits_are_light p I (most_active p) p.main, weight_is, bits_are, first.one_node, ap length e.added.is, length-append a.net e.added.more, e.added.few);
     }
 
-    pub main_whole : {c : Sym} → count ≡ length (Duties p I) → count < 2 ^ 32 → IsNet c.net → FormDoes p I n r at f b c → IsWhole p I c
+    pub main_whole : {c : Sym} → count ≡ length (Duties p I) → count < 2 ^ 32 → IsNet c.net → FormDoes p W n r at f b c → IsWhole p I c
     main_whole {c} many small fine x =
         let ds = Duties p I in
         let sets_out = entered_start (first.start ds (sym many)) e in
@@ -77,28 +87,31 @@ module _ (p : Program) (I : List Placed) (r : _) (ps : List ℕ) (at : Spot) (f 
           fits = x.fits;
           fine = fine;
           numbered = omega (arith, many, small);
-          decides = subst (λ run. Decides ds p (first_cells p) c run) (sym (ap (run_if p (havoc p I) (suc n)) main)) (decides p ds r b c (first_cells p) _ x sets_out fine);
+          decides = subst (λ run. Decides ds p (first_cells p) [] c run) (sym (ap (λ f. run_if p (judged p W) (suc n) f true) main)) (decides p ds r b c (first_cells p) [] _ x sets_out fine);
           gates = omega (arith, size.gates, weight_is, first.no_gates, ap count_ands e.added.is, count_ands-append a.net e.added.more, e.added.gates);
           feeds = omega (arith, size.feeds, bits_are, first.no_inputs, ap count_inputs e.added.is, inputs-append a.net e.added.more, e.added.feeds);
         }
 
--- ---- what is told of the whole
-pub are_made : (p : Program) (I : List Placed) (s : Sym) (list : List Duty) (failing : List Bit) (sites : List DrawSite) → IsWhole p I s → IsLight p I → list ≡ Duties p I → failing ≡ s.failing.items → sites ≡ s.sites.items
-    → All (StandsFor p) s.sites.items → AreMade p I (record { list = list; net = s.net; failing = failing; sites = sites })
-are_made p I s list failing sites h light a b c stand = rw (a, b, c) (record {
+-- ---- what is told of the whole; law: in the mode of obligations the judged run is the havoc run
+pub are_made : (p : Program) (I : List Placed) (s : Sym) (list : List Duty) (failing : List Bit) (sites : List DrawSite) → ((w : List ℤ) → IsHavocRun p I (suc (length p.functions)) w []) → IsWhole p I s → IsLight p I → list ≡ Duties p I
+    → failing ≡ s.failing.items → sites ≡ s.sites.items → All (StandsFor p) s.sites.items → AreMade p I (record { list = list; net = s.net; failing = failing; sites = sites })
+are_made p I s list failing sites law h light a b c stand = rw (a, b, c) (record {
   list = refl;
   numbered = h.numbered;
   many = h.decides.many;
   failing_in = h.fits.failing;
   sites_in = h.fits.sites;
   stand = stand;
-  each = λ v. let t = h.decides.each v in record { draws = t.draws; ends = t.ends };
-  all = λ w. let t = h.decides.all w in (t.0, record { draws = t.1.draws; ends = t.1.ends });
+  each = λ v. told v (values_of (draws_at p v s.net s.sites.items)) (h.decides.each v);
+  all = λ w. let t = h.decides.all w in (t.0, told t.0 w t.1);
   gates = h.gates;
   feeds = h.feeds;
   drawn = bits_are_light p I (most_active p) p.main;
   light = light;
 })
+  where
+    told : (v : ℕ → Bool) (w : List ℤ) → whole.Tells p s v (havoc_run (Duties p I) (as_havoc (judged_in p (obliging p I) (suc (length p.functions)) w []))) → Tells p I (record { list = Duties p I; net = s.net; failing = s.failing.items; sites = s.sites.items }) v w
+    told v w t = let q : whole.Tells p s v (Havoc p I w) = subst (λ r. whole.Tells p s v (havoc_run (Duties p I) r)) (law w) t in record { draws = q.draws; ends = q.ends }
 
 -- ---- functions
 called_within : {p : Program} {es : List Exp} (f : ℕ) → IsCalledFrom p es f → f < length p.functions

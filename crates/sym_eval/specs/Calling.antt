@@ -6,11 +6,12 @@ use Rattle.c_core.specs.Parts.{exps_in, every_argument}
 use Rattle.c_core.specs.Typing.{exp_fits, function_fits, has_value}
 use Rattle.c_core.specs.declared.number.IntType.{IntType}
 use Rattle.c_meaning.specs.Acts.{Go, Next, bind, scoped, given}
-use Rattle.c_meaning.specs.Duties.{Placed, Duties}
 use Rattle.c_meaning.specs.Eval.{evals}
 use Rattle.c_meaning.specs.Exec.{with_params, run_in}
 use Rattle.c_meaning.specs.Fitting.{calls_in}
-use Rattle.c_meaning.specs.Havoc.{Stopped, Left, cells_left, with_cells_left, havoc, returned}
+use Rattle.c_meaning.specs.Havoc.{Stopped}
+use Rattle.sym_meaning.specs.Mode.{JudgedState, cells_judged, with_cells_judged, Mode}
+use Rattle.sym_meaning.specs.Judged.{judged, returned}
 use Rattle.c_meaning.specs.Meaning.{Site}
 use Rattle.c_meaning.specs.Objects.{type_of, type_or_int, type_of_object}
 use Rattle.circuits.specs.declared.net.Bit.{Bit}
@@ -53,19 +54,19 @@ module _ (p : Program) where
 
   -- each parameter gets its argument, converted to its type, or 0 where there is none (C11 6.5.2.2p4, p7)
   abbrev pub Sets : List ℕ → List Argument → Sym → Sym → Type 0
-  Sets os xs old new = (I : List Placed) (gives : Option IntType)
-      → Runs (Duties p I) p gives (set_cost os xs) 0 old new (λ v. with_params p (havoc p I) os (values_at v old.net xs) (λ s. Go Next s))
+  Sets os xs old new = (W : Mode) (gives : Option IntType)
+      → Runs W.duties p gives (set_cost os xs) 0 old new (λ v. with_params p (judged p W) os (values_at v old.net xs) (λ may s. Go Next s) true)
 
   -- a run that is here ended and failed nothing; the bits are of the type, and no value
   pub record Ended (ty : Option IntType) (old new : Sym) (bits : List Bit) : Type 0 where
     pub bits_in : AreOf p.model ty new.net bits
-    pub follows : (I : List Placed) → Ends p I 1 old new (end_of p I)
+    pub follows : (W : Mode) → Ends p W 1 old new (end_of p W)
 
 -- calls at most n deep
-module _ (p : Program) (I : List Placed) (n : ℕ) where
+module _ (p : Program) (W : Mode) (n : ℕ) where
   -- ---- arguments
   abbrev pub weight_of_all : Exps → ℕ
-  weight_of_all es = arguments p (weighing (weight_in p I n)) es
+  weight_of_all es = arguments p (weighing (weight_in p W.placed n)) es
 
   abbrev pub bits_of_all : Exps → ℕ
   bits_of_all es = arguments p (drawing (bits_in p n)) es
@@ -76,19 +77,19 @@ module _ (p : Program) (I : List Placed) (n : ℕ) where
       pub fits : IsState p s
       pub types : IsTrue (every_argument (exp_fits p) es)
       pub values : IsTrue (list_all has_value (exps_in es))
-      pub duty : IsDutyAt p I at
+      pub duty : IsDutyAt p W at
       pub room : length s.net + (weight_of_all es + bits_of_all es) < 2 ^ 27
 
     -- they were evaluated from left to right; the bits are their values, in their types
     pub record AllValues (es : Exps) (old new : Sym) (xs : List Argument) : Type 0 where
       pub types : map (λ x. x.ty) xs ≡ map type_of (exps_in es)
       pub bits_in : AreArguments p new.net xs
-      pub follows : Follows (Duties p I) p (weight_of_all es) (bits_of_all es) old new (λ v vs. vs ≡ values_at p v new.net xs)
-          (λ v. evals p (havoc p I) (calls_in p (havoc p I) n) (where_of at) es)
+      pub follows : Follows W.duties p (weight_of_all es) (bits_of_all es) old new (λ v vs. vs ≡ values_at p v new.net xs)
+          (λ v. evals p (judged p W) (calls_in p (judged p W) n) (where_of at) es)
 
   -- ---- the function of a number
   abbrev pub weight_of_call : ℕ → List Argument → ℕ
-  weight_of_call f xs = call_weight + (set_cost p (params_of (slice_get p.functions f)) xs + weight_in p I n f)
+  weight_of_call f xs = call_weight + (set_cost p (params_of (slice_get p.functions f)) xs + weight_in p W.placed n f)
 
   abbrev pub bits_of_call : ℕ → ℕ
   bits_of_call f = bits_in p n f
@@ -104,12 +105,12 @@ module _ (p : Program) (I : List Placed) (n : ℕ) where
   -- it was called with these arguments; the bits are the value that it gave, where that is needed
   pub record Called (f : ℕ) (needed : Bool) (ty : Option IntType) (xs : List Argument) (old new : Sym) (bits : List Bit) : Type 0 where
     pub bits_in : AreOf p.model ty new.net bits
-    pub follows : (site : Site) → site.needed ≡ needed → Follows (Duties p I) p (weight_of_call f xs) (bits_of_call f) old new (λ v z. needed ≡ true → IsNumber p.model ty new.net bits v z)
-        (λ v. calls_in p (havoc p I) n site f (values_at p v old.net xs))
+    pub follows : (site : Site) → site.needed ≡ needed → Follows W.duties p (weight_of_call f xs) (bits_of_call f) old new (λ v z. needed ≡ true → IsNumber p.model ty new.net bits v z)
+        (λ v. calls_in p (judged p W) n site f (values_at p v old.net xs))
 
   -- ---- a function whose body has calls at most n deep
   abbrev pub weight_of_run : Function → List Argument → ℕ
-  weight_of_run fn xs = set_cost p fn.params xs + function_body p (weighing (weight_in p I n)) (placed_weight p I) fn.result fn.body
+  weight_of_run fn xs = set_cost p fn.params xs + function_body p (weighing (weight_in p W.placed n)) (placed_weight p W.placed) fn.result fn.body
 
   abbrev pub bits_of_run : Function → ℕ
   bits_of_run fn = function_body p (drawing (bits_in p n)) nowhere fn.result fn.body
@@ -125,5 +126,5 @@ module _ (p : Program) (I : List Placed) (n : ℕ) where
   -- it was run: its parameters' cells, its body in a scope of its own, and the value that it gave
   pub record HasRun (needed : Bool) (fn : Function) (xs : List Argument) (old new : Sym) (bits : List Bit) : Type 0 where
     pub bits_in : AreTyped p.model (type_or_int fn.result) new.net bits
-    pub follows : (site : Site) → site.needed ≡ needed → Follows (Duties p I) p (weight_of_run fn xs) (bits_of_run fn) old new (λ v. is_value needed (typed p.model (type_or_int fn.result) v new.net bits))
-        (λ v s. bind (scoped Stopped Left cells_left with_cells_left (with_params p (havoc p I) fn.params (values_at p v old.net xs) (run_in p (havoc p I) (suc n) fn)) s) (λ flow. returned p I site (given flow)))
+    pub follows : (site : Site) → site.needed ≡ needed → Follows W.duties p (weight_of_run fn xs) (bits_of_run fn) old new (λ v. is_value needed (typed p.model (type_or_int fn.result) v new.net bits))
+        (λ v s. bind (scoped Stopped JudgedState cells_judged with_cells_judged (with_params p (judged p W) fn.params (values_at p v old.net xs) (run_in p (judged p W) (suc n) fn) true) s) (λ flow. returned p W site (given flow)))

@@ -1,14 +1,14 @@
 -- What full expressions of statements are to give onto a net, and what a loop does by its controlling expression.
-use Rattle.std.specs.Prelude.{◌≡◌, ℕ, ◌+◌, ◌<◌, ◌^◌, Bool, true, false, ◌&&◌, not, ◌||◌, length, List, Option, Some, None, IsTrue}
+use Rattle.std.specs.Prelude.{ℕ, ◌+◌, ◌<◌, ◌^◌, Bool, true, ◌&&◌, not, ◌||◌, length, List, Option, Some, None, IsTrue}
 use Rattle.c_core.specs.Tree.{Program, Exp}
 use Rattle.c_core.specs.Parts.{type_of}
 use Rattle.c_core.specs.Typing.{is_typed, has_value}
 use Rattle.c_core.specs.declared.number.IntType.{IntType}
 use Rattle.c_core.specs.declared.number.Spot.{Spot}
 use Rattle.c_meaning.specs.Acts.{Go, Next, Broken}
-use Rattle.c_meaning.specs.Duties.{Placed, Duties}
 use Rattle.c_meaning.specs.Exec.{full, full_if, control, going}
-use Rattle.c_meaning.specs.Havoc.{havoc}
+use Rattle.sym_meaning.specs.Mode.{Mode}
+use Rattle.sym_meaning.specs.Judged.{judged}
 use Rattle.c_meaning.specs.Meaning.{Use}
 use Rattle.circuits.specs.declared.net.Bit.{Bit}
 use Rattle.sym_state.specs.declared.state.Sym.{Sym}
@@ -40,39 +40,39 @@ module _ (p : Program) where
   is_test (Some e) = has_value e && is_typed p e
 
 -- calls at most n deep
-module _ (p : Program) (I : List Placed) (n : ℕ) where
+module _ (p : Program) (W : Mode) (n : ℕ) where
   -- a full expression can be evaluated from a state
   pub record FullReady (s : Sym) (e : Exp) : Type 0 where
     pub fits : IsState p s
     pub types : IsTrue (is_typed p e)
-    pub room : length s.net + (weight_of p I n e + bits_of p I n e) < 2 ^ 27
+    pub room : length s.net + (weight_of p W n e + bits_of p W n e) < 2 ^ 27
 
   -- it was evaluated; the bits are its value, where that is used
   pub record FullGives (at : Spot) (want : Use) (e : Exp) (old new : Sym) (bits : List Bit) : Type 0 where
     pub bits_in : AreOf p.model (type_of e) new.net bits
-    pub follows : Follows (Duties p I) p (weight_of p I n e) (bits_of p I n e) old new (IsWanted want p.model (type_of e) new.net bits) (λ v. full p (havoc p I) (calls p I n) at want e)
+    pub follows : Follows W.duties p (weight_of p W n e) (bits_of p W n e) old new (IsWanted want p.model (type_of e) new.net bits) (λ v. full p (judged p W) (calls p W n) at want e)
 
   -- a loop can be tested from a state
   pub record TestReady (s : Sym) (e : Exp) : Type 0 where
     pub fits : IsState p s
     pub types : IsTrue (is_typed p e)
     pub value : IsTrue (has_value e)
-    pub room : length s.net + (test_glue + (weight_of_control p I n e + bits_of_control p I n e)) < 2 ^ 27
+    pub room : length s.net + (test_glue + (weight_of_control p W n e + bits_of_control p W n e)) < 2 ^ 27
 
   -- it goes on, or is left, in a function of any result
   abbrev pub TestDoes : Spot → Exp → Sym → Sym → Type 0
-  TestDoes at e old new = (gives : Option IntType) → Runs (Duties p I) p gives (test_glue + weight_of_control p I n e) (bits_of_control p I n e) old new
-      (λ v. control p (havoc p I) (calls p I n) at e (λ s. Go Next s) (λ s. Go Broken s))
+  TestDoes at e old new = (gives : Option IntType) → Runs W.duties p gives (test_glue + weight_of_control p W n e) (bits_of_control p W n e) old new
+      (λ v. control p (judged p W) (calls p W n) at e (λ may s. Go Next s) (λ may s. Go Broken s) true)
 
   -- ---- the parts of a `for`, which may be missing
   abbrev pub weight_of_test : Option Exp → ℕ
-  weight_of_test e = sum.control_if p (weighing (weight_in p I n)) e
+  weight_of_test e = sum.control_if p (weighing (weight_in p W.placed n)) e
 
   abbrev pub bits_of_test : Option Exp → ℕ
   bits_of_test e = sum.control_if p (drawing (bits_in p n)) e
 
   abbrev pub weight_of_step : Option Exp → ℕ
-  weight_of_step e = sum.expression_if p (weighing (weight_in p I n)) e
+  weight_of_step e = sum.expression_if p (weighing (weight_in p W.placed n)) e
 
   abbrev pub bits_of_step : Option Exp → ℕ
   bits_of_step e = sum.expression_if p (drawing (bits_in p n)) e
@@ -83,7 +83,7 @@ module _ (p : Program) (I : List Placed) (n : ℕ) where
     pub room : length s.net + (test_glue + (weight_of_test e + bits_of_test e)) < 2 ^ 27
 
   abbrev pub TestIfDoes : Spot → Option Exp → Sym → Sym → Type 0
-  TestIfDoes at e old new = (gives : Option IntType) → Runs (Duties p I) p gives (test_glue + weight_of_test e) (bits_of_test e) old new (λ v. going p (havoc p I) (calls p I n) at e (λ s. Go Next s))
+  TestIfDoes at e old new = (gives : Option IntType) → Runs W.duties p gives (test_glue + weight_of_test e) (bits_of_test e) old new (λ v. going p (judged p W) (calls p W n) at e (λ may s. Go Next s) true)
 
   -- the last part of `for (..)`
   pub record StepReady (s : Sym) (e : Option Exp) : Type 0 where
@@ -92,4 +92,4 @@ module _ (p : Program) (I : List Placed) (n : ℕ) where
     pub room : length s.net + (weight_of_step e + bits_of_step e) < 2 ^ 27
 
   abbrev pub StepDoes : Spot → Option Exp → Sym → Sym → Type 0
-  StepDoes at e old new = (gives : Option IntType) → Runs (Duties p I) p gives (weight_of_step e) (bits_of_step e) old new (λ v. full_if p (havoc p I) (calls p I n) at e (λ s. Go Next s))
+  StepDoes at e old new = (gives : Option IntType) → Runs W.duties p gives (weight_of_step e) (bits_of_step e) old new (λ v. full_if p (judged p W) (calls p W n) at e (λ may s. Go Next s) true)

@@ -1,8 +1,8 @@
 -- What the walk of a statement onto a net is to give.
 --
--- For each form one function; its contract is that of the whole: what `exec p (havoc p I)` does to each run that is here, no more
+-- For each form one function; its contract is that of the whole: what `exec p (judged p W)` does to each run that is here, no more
 -- and-nodes than the statement weighs, no more inputs than it draws.
-use Rattle.std.specs.Prelude.{◌≡◌, ℕ, ◌+◌, ◌<◌, ◌^◌, ◌&&◌, not, length, List, Option, IsTrue, slice_get}
+use Rattle.std.specs.Prelude.{◌≡◌, ℕ, ◌+◌, ◌<◌, ◌^◌, ◌&&◌, not, length, List, Option, IsTrue, slice_get, true}
 use Rattle.std.specs.List.{list_all, flat_map}
 use Rattle.c_core.specs.Tree.{Program, Exp, Exps, Init, Names, First, Stm, Stmt, Form, Else, Stms}
 use Rattle.c_core.specs.Parts.{exps_in, fulls_of_init, fulls_of_names, fulls_of_first, every_statement, every_statement_else, every_statement_of}
@@ -10,11 +10,14 @@ use Rattle.c_core.specs.Types.{is_zero}
 use Rattle.c_core.specs.Typing.{is_typed, row_fits, init_fits, declarators_fit, first_fits, has_value, statement_fits}
 use Rattle.c_core.specs.declared.number.IntType.{IntType}
 use Rattle.c_core.specs.declared.number.Spot.{Spot}
+use Rattle.c_meaning.specs.declared.run.Event.TheVariants.{Branch}
+use Rattle.c_meaning.specs.declared.run.Way.TheVariants.{Truth}
 use Rattle.c_meaning.specs.Acts.{Go, Next, bind, scoped}
-use Rattle.c_meaning.specs.Duties.{Placed, Duties}
 use Rattle.c_meaning.specs.Exec.{full, first, declare, initials, row_initials, initial, exec, form, otherwise, execs}
 use Rattle.c_meaning.specs.Fitting.{calls_in}
-use Rattle.c_meaning.specs.Havoc.{Stopped, Left, cells_left, with_cells_left, havoc}
+use Rattle.c_meaning.specs.Havoc.{Stopped}
+use Rattle.sym_meaning.specs.Mode.{JudgedState, cells_judged, with_cells_judged, Mode}
+use Rattle.sym_meaning.specs.Judged.{judged, tell}
 use Rattle.c_meaning.specs.Meaning.{Used, Calls}
 use Rattle.c_meaning.specs.Objects.{type_or_int, columns_of_object}
 use Rattle.circuits.specs.declared.net.Bit.{Bit}
@@ -31,13 +34,13 @@ abbrev pub form_glue : ℕ
 form_glue = 8
 
 -- calls at most n deep
-module _ (p : Program) (I : List Placed) (n : ℕ) where
-  abbrev pub calls : Calls (havoc p I)
-  calls = calls_in p (havoc p I) n
+module _ (p : Program) (W : Mode) (n : ℕ) where
+  abbrev pub calls : Calls (judged p W)
+  calls = calls_in p (judged p W) n
 
   -- ---- controlling expressions
   abbrev pub weight_of_control : Exp → ℕ
-  weight_of_control e = sum.control p (weighing (weight_in p I n)) e
+  weight_of_control e = sum.control p (weighing (weight_in p W.placed n)) e
 
   abbrev pub bits_of_control : Exp → ℕ
   bits_of_control e = sum.control p (drawing (bits_in p n)) e
@@ -49,15 +52,15 @@ module _ (p : Program) (I : List Placed) (n : ℕ) where
     pub value : IsTrue (has_value e)
     pub room : length s.net + (weight_of_control e + bits_of_control e) < 2 ^ 27
 
-  -- its value is other than zero where the bit is true
+  -- its event was told, and its value is other than zero where the bit is true
   pub record Decides (at : Spot) (e : Exp) (old new : Sym) (bit : Bit) : Type 0 where
     pub bit_in : IsIn new.net bit
-    pub follows : Follows (Duties p I) p (weight_of_control e) (bits_of_control e) old new (λ v t. t ≡ holds v new.net bit)
-        (λ v s. bind (full p (havoc p I) calls at Used e s) (λ z s. Go (not (is_zero z)) s))
+    pub follows : Follows W.duties p (weight_of_control e) (bits_of_control e) old new (λ v t. t ≡ holds v new.net bit)
+        (λ v s. bind (full p (judged p W) calls at Used e s) (λ z s. bind (tell p W (Branch at (Truth (not (is_zero z)))) s) (λ u s. Go (not (is_zero z)) s)))
 
   -- ---- declarations, in a function of any result
   abbrev pub weight_of_initials : ℕ → Exps → ℕ
-  weight_of_initials o es = sum.initials p (weighing (weight_in p I n)) o es
+  weight_of_initials o es = sum.initials p (weighing (weight_in p W.placed n)) o es
 
   abbrev pub bits_of_initials : ℕ → Exps → ℕ
   bits_of_initials o es = sum.initials p (drawing (bits_in p n)) o es
@@ -71,10 +74,10 @@ module _ (p : Program) (I : List Placed) (n : ℕ) where
 
   -- from an index on
   abbrev pub InitialsDo : Spot → ℕ → ℕ → Exps → Sym → Sym → Type 0
-  InitialsDo at o i es old new = Follows (Duties p I) p (weight_of_initials o es) (bits_of_initials o es) old new (λ v u. Unit {0}) (λ v. initials p (havoc p I) calls at o i es)
+  InitialsDo at o i es old new = Follows W.duties p (weight_of_initials o es) (bits_of_initials o es) old new (λ v u. Unit {0}) (λ v. initials p (judged p W) calls at o i es)
 
   abbrev pub weight_of_rows : ℕ → List Exps → ℕ
-  weight_of_rows o rows = sum.row_initials p (weighing (weight_in p I n)) o rows
+  weight_of_rows o rows = sum.row_initials p (weighing (weight_in p W.placed n)) o rows
 
   abbrev pub bits_of_rows : ℕ → List Exps → ℕ
   bits_of_rows o rows = sum.row_initials p (drawing (bits_in p n)) o rows
@@ -87,10 +90,10 @@ module _ (p : Program) (I : List Placed) (n : ℕ) where
     pub room : length s.net + (weight_of_rows o rows + bits_of_rows o rows) < 2 ^ 27
 
   abbrev pub RowsDo : Spot → ℕ → List Exps → Sym → Sym → Type 0
-  RowsDo at o rows old new = Follows (Duties p I) p (weight_of_rows o rows) (bits_of_rows o rows) old new (λ v u. Unit {0}) (λ v. row_initials p (havoc p I) calls at o 0 rows)
+  RowsDo at o rows old new = Follows W.duties p (weight_of_rows o rows) (bits_of_rows o rows) old new (λ v u. Unit {0}) (λ v. row_initials p (judged p W) calls at o 0 rows)
 
   abbrev pub weight_of_initial : ℕ → Init → ℕ
-  weight_of_initial o i = sum.initialised p (weighing (weight_in p I n)) o i
+  weight_of_initial o i = sum.initialised p (weighing (weight_in p W.placed n)) o i
 
   abbrev pub bits_of_initial : ℕ → Init → ℕ
   bits_of_initial o i = sum.initialised p (drawing (bits_in p n)) o i
@@ -103,10 +106,10 @@ module _ (p : Program) (I : List Placed) (n : ℕ) where
 
   -- of an object declared at a place, in the statement at another
   abbrev pub InitialDoes : Spot → Spot → ℕ → Init → Sym → Sym → Type 0
-  InitialDoes at spot o i old new = Follows (Duties p I) p (weight_of_initial o i) (bits_of_initial o i) old new (λ v u. Unit {0}) (λ v. initial p (havoc p I) calls at spot o i)
+  InitialDoes at spot o i old new = Follows W.duties p (weight_of_initial o i) (bits_of_initial o i) old new (λ v u. Unit {0}) (λ v. initial p (judged p W) calls at spot o i)
 
   abbrev pub weight_of_names : Names → ℕ
-  weight_of_names ns = sum.declared p (weighing (weight_in p I n)) ns
+  weight_of_names ns = sum.declared p (weighing (weight_in p W.placed n)) ns
 
   abbrev pub bits_of_names : Names → ℕ
   bits_of_names ns = sum.declared p (drawing (bits_in p n)) ns
@@ -118,10 +121,10 @@ module _ (p : Program) (I : List Placed) (n : ℕ) where
     pub room : length s.net + (weight_of_names ns + bits_of_names ns) < 2 ^ 27
 
   abbrev pub NamesDo : Spot → Names → Sym → Sym → Type 0
-  NamesDo at ns old new = (gives : Option IntType) → Runs (Duties p I) p gives (weight_of_names ns) (bits_of_names ns) old new (λ v. declare p (havoc p I) calls at ns)
+  NamesDo at ns old new = (gives : Option IntType) → Runs W.duties p gives (weight_of_names ns) (bits_of_names ns) old new (λ v. declare p (judged p W) calls at ns true)
 
   abbrev pub weight_of_first : First → ℕ
-  weight_of_first i = sum.first p (weighing (weight_in p I n)) i
+  weight_of_first i = sum.first p (weighing (weight_in p W.placed n)) i
 
   abbrev pub bits_of_first : First → ℕ
   bits_of_first i = sum.first p (drawing (bits_in p n)) i
@@ -134,12 +137,12 @@ module _ (p : Program) (I : List Placed) (n : ℕ) where
 
   -- with nothing after it
   abbrev pub FirstDoes : Spot → First → Sym → Sym → Type 0
-  FirstDoes at i old new = (gives : Option IntType) → Runs (Duties p I) p gives (weight_of_first i) (bits_of_first i) old new (λ v. first p (havoc p I) calls at i (λ s. Go Next s))
+  FirstDoes at i old new = (gives : Option IntType) → Runs W.duties p gives (weight_of_first i) (bits_of_first i) old new (λ v. first p (judged p W) calls at i (λ may s. Go Next s) true)
 
   -- ---- statements, in a function of this result
   module _ (gives : Option IntType) where
     abbrev pub weight_of : Stm → ℕ
-    weight_of x = sum.statement p (weighing (weight_in p I n)) (placed_weight p I) gives x
+    weight_of x = sum.statement p (weighing (weight_in p W.placed n)) (placed_weight p W.placed) gives x
 
     abbrev pub bits_of : Stm → ℕ
     bits_of x = sum.statement p (drawing (bits_in p n)) nowhere gives x
@@ -152,15 +155,15 @@ module _ (p : Program) (I : List Placed) (n : ℕ) where
       pub room : length s.net + (weight_of x + bits_of x) < 2 ^ 27
 
     abbrev pub Does : Stm → Sym → Sym → Type 0
-    Does x old new = Runs (Duties p I) p gives (weight_of x) (bits_of x) old new (λ v. exec p (havoc p I) calls gives x)
+    Does x old new = Runs W.duties p gives (weight_of x) (bits_of x) old new (λ v. exec p (judged p W) calls gives x true)
 
     -- a statement that is a scope of its own: after it there are as many cells as before
     pub record ScopeDoes (x : Stm) (old new : Sym) : Type 0 where
-      pub runs : Runs (Duties p I) p gives (weight_of x) (bits_of x) old new (λ v. scoped Stopped Left cells_left with_cells_left (exec p (havoc p I) calls gives x))
+      pub runs : Runs W.duties p gives (weight_of x) (bits_of x) old new (λ v. scoped Stopped JudgedState cells_judged with_cells_judged (exec p (judged p W) calls gives x true))
       pub level : length new.cells.items ≡ length old.cells.items
 
     abbrev pub weight_of_form : Spot → Form → ℕ
-    weight_of_form at f = sum.form p (weighing (weight_in p I n)) (placed_weight p I) gives at f
+    weight_of_form at f = sum.form p (weighing (weight_in p W.placed n)) (placed_weight p W.placed) gives at f
 
     abbrev pub bits_of_form : Spot → Form → ℕ
     bits_of_form at f = sum.form p (drawing (bits_in p n)) nowhere gives at f
@@ -173,10 +176,10 @@ module _ (p : Program) (I : List Placed) (n : ℕ) where
       pub room : length s.net + (form_glue + weight_of_form at f + bits_of_form at f) < 2 ^ 27
 
     abbrev pub FormDoes : Spot → Form → Sym → Sym → Type 0
-    FormDoes at f old new = Runs (Duties p I) p gives (form_glue + weight_of_form at f) (bits_of_form at f) old new (λ v. form p (havoc p I) calls gives at f)
+    FormDoes at f old new = Runs W.duties p gives (form_glue + weight_of_form at f) (bits_of_form at f) old new (λ v. form p (judged p W) calls gives at f true)
 
     abbrev pub weight_of_else : Else → ℕ
-    weight_of_else x = sum.otherwise p (weighing (weight_in p I n)) (placed_weight p I) gives x
+    weight_of_else x = sum.otherwise p (weighing (weight_in p W.placed n)) (placed_weight p W.placed) gives x
 
     abbrev pub bits_of_else : Else → ℕ
     bits_of_else x = sum.otherwise p (drawing (bits_in p n)) nowhere gives x
@@ -190,11 +193,11 @@ module _ (p : Program) (I : List Placed) (n : ℕ) where
 
     -- it is a scope of its own
     pub record ElseDoes (x : Else) (old new : Sym) : Type 0 where
-      pub runs : Runs (Duties p I) p gives (weight_of_else x) (bits_of_else x) old new (λ v. otherwise p (havoc p I) calls gives x)
+      pub runs : Runs W.duties p gives (weight_of_else x) (bits_of_else x) old new (λ v. otherwise p (judged p W) calls gives x true)
       pub level : length new.cells.items ≡ length old.cells.items
 
     abbrev pub weight_of_block : Stms → ℕ
-    weight_of_block b = sum.statements p (weighing (weight_in p I n)) (placed_weight p I) gives b
+    weight_of_block b = sum.statements p (weighing (weight_in p W.placed n)) (placed_weight p W.placed) gives b
 
     abbrev pub bits_of_block : Stms → ℕ
     bits_of_block b = sum.statements p (drawing (bits_in p n)) nowhere gives b
@@ -207,4 +210,4 @@ module _ (p : Program) (I : List Placed) (n : ℕ) where
       pub room : length s.net + (weight_of_block b + bits_of_block b) < 2 ^ 27
 
     abbrev pub BlockDoes : Stms → Sym → Sym → Type 0
-    BlockDoes b old new = Runs (Duties p I) p gives (weight_of_block b) (bits_of_block b) old new (λ v. execs p (havoc p I) calls gives b)
+    BlockDoes b old new = Runs W.duties p gives (weight_of_block b) (bits_of_block b) old new (λ v. execs p (judged p W) calls gives b true)

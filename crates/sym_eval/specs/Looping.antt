@@ -1,9 +1,9 @@
 -- What the walk of a loop onto a net is to give, part by part.
-use Rattle.std.specs.Prelude.{◌≡◌, ℕ, ◌+◌, ◌*◌, ◌<◌, ◌^◌, Bool, true, false, ◌&&◌, length, List, Option, Some, None, is_some, IsTrue}
+use Rattle.std.specs.Prelude.{◌≡◌, ℕ, ◌+◌, ◌*◌, ◌<◌, ◌^◌, Bool, true, ◌&&◌, length, List, Option, Some, None, is_some, IsTrue}
 use Rattle.std.specs.List.{list_all}
 use Rattle.c_core.specs.Tree.{Program, First, Stm}
 use Rattle.c_core.specs.Parts.{fulls_of_first, every_statement}
-use Rattle.c_core.specs.Typing.{is_typed, has_value, first_fits, statement_fits}
+use Rattle.c_core.specs.Typing.{is_typed, first_fits, statement_fits}
 use Rattle.c_core.specs.declared.number.IntType.{IntType}
 use Rattle.c_core.specs.declared.number.Spot.{Spot}
 use Rattle.c_calls.specs.Loops.{changed_if}
@@ -11,7 +11,10 @@ use Rattle.c_meaning.specs.declared.run.DutyKind.TheVariants.{Entry}
 use Rattle.c_meaning.specs.Acts.{Res, Go, Flow, Next, scoped, continued}
 use Rattle.c_meaning.specs.Duties.{Placed, Duties}
 use Rattle.c_meaning.specs.Exec.{first, exec, turn}
-use Rattle.c_meaning.specs.Havoc.{Stopped, Left, cells_left, with_cells_left, havoc, test_from, assume_all, redraw, loop}
+use Rattle.c_meaning.specs.Havoc.{Stopped}
+use Rattle.sym_meaning.specs.Mode.{JudgedState, cells_judged, with_cells_judged, Mode}
+use Rattle.sym_meaning.specs.Judged.{judged}
+use Rattle.sym_meaning.specs.Obliging.{test_from, assume_all, redraw}
 use Rattle.c_meaning.specs.Meaning.{Loop, WhileLoop, DoLoop, ForLoop}
 use Rattle.c_meaning.specs.Objects.{type_or_int}
 use Rattle.sym_state.specs.declared.state.Sym.{Sym}
@@ -22,7 +25,7 @@ use Rattle.sym_weight.specs.Sum.{Sum}
 use Rattle.sym_weight.specs.Sum as sum
 use Rattle.sym_weight.specs.Table.{bits_of_objects}
 use Rattle.sym_weight.specs.Weight.{weighing, drawing, weight_in, bits_in, placed_weight, nowhere}
-use Rattle.sym_eval.specs.Control.{test_glue, is_test, is_typed_if}
+use Rattle.sym_eval.specs.Control.{is_test, is_typed_if}
 use Rattle.sym_eval.specs.Doing.{calls, weight_of, bits_of, weight_of_first, bits_of_first}
 
 -- and-nodes of one turn besides its parts: those of its test, and of its body's end
@@ -59,7 +62,7 @@ module _ (p : Program) where
   changed_bits l = bits_of_objects p (changed_if p l)
 
 module _ (p : Program) (I : List Placed) where
-  -- before the turn: the invariants are tested on arrival, what the loop changes draws, and the invariants are assumed
+  -- in the mode of obligations, before the turn: the invariants are tested on arrival, what the loop changes draws, and the invariants are assumed
   pub record HeadDoes (at : Spot) (l : Option Loop) (old new : Sym) : Type 0 where
     pub arrived : Sym
     pub redrawn : Sym
@@ -68,21 +71,21 @@ module _ (p : Program) (I : List Placed) where
     pub assumed : Follows (Duties p I) p (placed_weight p I true at) 0 redrawn new (λ v u. Unit {0}) (λ v. assume_all p I I at)
 
 -- calls at most n deep, in a function of this result
-module _ (p : Program) (I : List Placed) (n : ℕ) (gives : Option IntType) where
+module _ (p : Program) (W : Mode) (n : ℕ) (gives : Option IntType) where
   -- ---- a loop's body
   -- the statement and its end
   pub record BodyReady (s : Sym) (b : Stm) : Type 0 where
     pub fits : IsState p s
     pub result : s.result ≡ type_or_int gives
     pub types : IsTrue (every_statement (statement_fits p gives) b)
-    pub room : length s.net + (1 + (weight_of p I n gives b + bits_of p I n gives b)) < 2 ^ 27
+    pub room : length s.net + (1 + (weight_of p W n gives b + bits_of p W n gives b)) < 2 ^ 27
 
   abbrev pub BodyDoes : Stm → Sym → Sym → Type 0
-  BodyDoes b old new = Runs (Duties p I) p gives (1 + weight_of p I n gives b) (bits_of p I n gives b) old new (λ v. continued Stopped Left cells_left with_cells_left (exec p (havoc p I) (calls p I n) gives b))
+  BodyDoes b old new = Runs W.duties p gives (1 + weight_of p W n gives b) (bits_of p W n gives b) old new (λ v. continued Stopped JudgedState cells_judged with_cells_judged (exec p (judged p W) (calls p W n) gives b true))
 
   -- ---- one turn
   abbrev pub weight_of_turn : Option Loop → ℕ
-  weight_of_turn l = turn_parts p (weighing (weight_in p I n)) (placed_weight p I) gives l
+  weight_of_turn l = turn_parts p (weighing (weight_in p W.placed n)) (placed_weight p W.placed) gives l
 
   abbrev pub bits_of_turn : Option Loop → ℕ
   bits_of_turn l = turn_parts p (drawing (bits_in p n)) nowhere gives l
@@ -95,16 +98,16 @@ module _ (p : Program) (I : List Placed) (n : ℕ) (gives : Option IntType) wher
     pub room : length s.net + (turn_glue + (weight_of_turn l + bits_of_turn l)) < 2 ^ 27
 
   -- where there is no loop, nothing is done
-  abbrev pub turned : Spot → Option Loop → Left → Res Stopped Left Flow
+  abbrev pub turned : Spot → Option Loop → JudgedState → Res Stopped JudgedState Flow
   turned at None s = Go Next s
-  turned at (Some l) s = turn p (havoc p I) (calls p I n) gives at l s
+  turned at (Some l) s = turn p (judged p W) (calls p W n) gives at l true s
 
   abbrev pub TurnDoes : Spot → Option Loop → Sym → Sym → Type 0
-  TurnDoes at l old new = Runs (Duties p I) p gives (turn_glue + weight_of_turn l) (bits_of_turn l) old new (λ v. turned at l)
+  TurnDoes at l old new = Runs W.duties p gives (turn_glue + weight_of_turn l) (bits_of_turn l) old new (λ v. turned at l)
 
   -- ---- the whole
   abbrev pub weight_of_loop : Spot → Option Loop → ℕ
-  weight_of_loop at l = loop_parts p (weighing (weight_in p I n)) (placed_weight p I) gives at l
+  weight_of_loop at l = loop_parts p (weighing (weight_in p W.placed n)) (placed_weight p W.placed) gives at l
 
   abbrev pub bits_of_loop : Spot → Option Loop → ℕ
   bits_of_loop at l = loop_parts p (drawing (bits_in p n)) nowhere gives at l
@@ -117,12 +120,12 @@ module _ (p : Program) (I : List Placed) (n : ℕ) (gives : Option IntType) wher
     pub types : IsTrue (turn_fits p gives l)
     pub room : length s.net + (loop_glue + (weight_of_loop at l + bits_of_loop at l)) < 2 ^ 27
 
-  abbrev pub looped : Spot → Option Loop → Left → Res Stopped Left Flow
+  abbrev pub looped : Spot → Option Loop → JudgedState → Res Stopped JudgedState Flow
   looped at None s = Go Next s
-  looped at (Some l) s = scoped Stopped Left cells_left with_cells_left (loop p I at l (turn p (havoc p I) (calls p I n) gives at l)) s
+  looped at (Some l) s = scoped Stopped JudgedState cells_judged with_cells_judged (W.loop at l (turn p (judged p W) (calls p W n) gives at l)) s
 
   abbrev pub LoopDoes : Spot → Option Loop → Sym → Sym → Type 0
-  LoopDoes at l old new = Runs (Duties p I) p gives (loop_glue + weight_of_loop at l) (bits_of_loop at l) old new (λ v. looped at l)
+  LoopDoes at l old new = Runs W.duties p gives (loop_glue + weight_of_loop at l) (bits_of_loop at l) old new (λ v. looped at l)
 
   -- ---- a `for`, whose first part is around its loop
   pub record ForReady (at : Spot) (s : Sym) (i : First) (l : Option Loop) : Type 0 where
@@ -131,8 +134,8 @@ module _ (p : Program) (I : List Placed) (n : ℕ) (gives : Option IntType) wher
     pub is : IsTrue (is_some l)
     pub first_types : IsTrue (first_fits p i && list_all (is_typed p) (fulls_of_first i))
     pub types : IsTrue (turn_fits p gives l)
-    pub room : length s.net + (loop_glue + (weight_of_first p I n i + weight_of_loop at l + (bits_of_first p I n i + bits_of_loop at l))) < 2 ^ 27
+    pub room : length s.net + (loop_glue + (weight_of_first p W n i + weight_of_loop at l + (bits_of_first p W n i + bits_of_loop at l))) < 2 ^ 27
 
   abbrev pub ForDoes : Spot → First → Option Loop → Sym → Sym → Type 0
-  ForDoes at i l old new = Runs (Duties p I) p gives (loop_glue + (weight_of_first p I n i + weight_of_loop at l)) (bits_of_first p I n i + bits_of_loop at l) old new
-      (λ v. scoped Stopped Left cells_left with_cells_left (first p (havoc p I) (calls p I n) at i (looped at l)))
+  ForDoes at i l old new = Runs W.duties p gives (loop_glue + (weight_of_first p W n i + weight_of_loop at l)) (bits_of_first p W n i + bits_of_loop at l) old new
+      (λ v. scoped Stopped JudgedState cells_judged with_cells_judged (first p (judged p W) (calls p W n) at i (λ may. looped at l) true))

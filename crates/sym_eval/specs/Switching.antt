@@ -1,5 +1,5 @@
 -- What the walk of a `switch` onto a net is to give: the choice of an arm, and the arms one after another (C11 6.8.4.2).
-use Rattle.std.specs.Prelude.{◌≡◌, ℕ, ◌+◌, ◌*◌, ◌<◌, ◌^◌, Bool, cond, List, [], ◌∷◌, length, map, Option, IsTrue}
+use Rattle.std.specs.Prelude.{◌≡◌, ℕ, ◌+◌, ◌*◌, ◌<◌, ◌^◌, Bool, cond, List, [], ◌∷◌, length, map, Option, IsTrue, true}
 use Rattle.std.specs.List.{list_all}
 use Rattle.c_core.specs.Tree.{Program, Exp, Stms}
 use Rattle.c_core.specs.Parts.{every_statement_of}
@@ -11,12 +11,12 @@ use Rattle.c_core.specs.declared.number.Spot.{Spot}
 use Rattle.c_core.specs.declared.tree.Arm.{Arm, out-Arm}
 use Rattle.c_core.specs.declared.tree.Label.{Label as ArmLabel}
 use Rattle.c_meaning.specs.Acts.{Res, Go, Flow, Next, bind, go_on}
-use Rattle.c_meaning.specs.Duties.{Placed, Duties}
 use Rattle.c_meaning.specs.Exec.{full, execs}
-use Rattle.c_meaning.specs.Havoc.{Stopped, Left, havoc}
+use Rattle.c_meaning.specs.Havoc.{Stopped}
+use Rattle.sym_meaning.specs.Mode.{JudgedState, Mode}
+use Rattle.sym_meaning.specs.Judged.{judged, selected}
 use Rattle.c_meaning.specs.Meaning.{Used}
 use Rattle.c_meaning.specs.Objects.{type_of, type_or_int}
-use Rattle.c_meaning.specs.Run.{arm_for}
 use Rattle.circuits.specs.declared.net.Bit.{Bit}
 use Rattle.circuits.specs.Net.{holds, IsIn}
 use Rattle.circuits.specs.Numbers.{AreIn}
@@ -35,7 +35,7 @@ abbrev pub arm_glue : ℕ
 arm_glue = 3
 
 -- calls at most n deep
-module _ (p : Program) (I : List Placed) (n : ℕ) where
+module _ (p : Program) (W : Mode) (n : ℕ) where
   -- ---- the choice of an arm
   -- and-nodes of it, besides the test
   abbrev pub choice_cost : IntType → List ArmLabel → ℕ
@@ -47,44 +47,44 @@ module _ (p : Program) (I : List Placed) (n : ℕ) where
     pub types : IsTrue (is_typed p e)
     pub value : IsTrue (has_value e)
     pub labels : IsTrue (list_all (label_fits p.model (promote_of (type_of e))) ls)
-    pub room : length s.net + (weight_of p I n e + choice_cost (type_of e) ls + bits_of p I n e) < 2 ^ 27
+    pub room : length s.net + (weight_of p W n e + choice_cost (type_of e) ls + bits_of p W n e) < 2 ^ 27
 
-  -- one was chosen; the bits say arm by arm whether it is done
+  -- one was chosen, and its event told; the bits say arm by arm whether it is done
   pub record Chooses (at : Spot) (e : Exp) (ls : List ArmLabel) (old new : Sym) (bits : List Bit) : Type 0 where
     pub many : length bits ≡ length ls
     pub inside : AreIn new.net bits
-    pub follows : Follows (Duties p I) p (weight_of p I n e + choice_cost (type_of e) ls) (bits_of p I n e) old new (λ v k. map (holds v new.net) bits ≡ done_from k ls)
-        (λ v s. bind (full p (havoc p I) (calls p I n) at Used e s) (λ z s. Go (arm_for (fit p.model (promote_of (type_of e)) z) ls) s))
+    pub follows : Follows W.duties p (weight_of p W n e + choice_cost (type_of e) ls) (bits_of p W n e) old new (λ v k. map (holds v new.net) bits ≡ done_from k ls)
+        (λ v s. bind (full p (judged p W) (calls p W n) at Used e s) (λ z. selected p W at (fit p.model (promote_of (type_of e)) z) ls))
 
   -- ---- arms, in a function of this result
   module _ (gives : Option IntType) where
     -- one arm: its statements, where it is done
-    abbrev pub arm_done : Bool → Stms → Left → Res Stopped Left Flow
-    arm_done t b s = cond t (execs p (havoc p I) (calls p I n) gives b s) (Go Next s)
+    abbrev pub arm_done : Bool → Stms → JudgedState → Res Stopped JudgedState Flow
+    arm_done t b s = cond t (execs p (judged p W) (calls p W n) gives b true s) (Go Next s)
 
     pub record ArmReady (s : Sym) (bit : Bit) (b : Stms) : Type 0 where
       pub fits : IsState p s
       pub result : s.result ≡ type_or_int gives
       pub types : IsTrue (every_statement_of (statement_fits p gives) b)
       pub bit_in : IsIn s.net bit
-      pub room : length s.net + (arm_glue + weight_of_block p I n gives b + bits_of_block p I n gives b) < 2 ^ 27
+      pub room : length s.net + (arm_glue + weight_of_block p W n gives b + bits_of_block p W n gives b) < 2 ^ 27
 
     -- there are as many cells as before: declarations stand in blocks alone
     pub record ArmDoes (bit : Bit) (b : Stms) (old new : Sym) : Type 0 where
-      pub runs : Runs (Duties p I) p gives (arm_glue + weight_of_block p I n gives b) (bits_of_block p I n gives b) old new (λ v. arm_done (holds v old.net bit) b)
+      pub runs : Runs W.duties p gives (arm_glue + weight_of_block p W n gives b) (bits_of_block p W n gives b) old new (λ v. arm_done (holds v old.net bit) b)
       pub level : length new.cells.items ≡ length old.cells.items
 
     -- the arms, of which those are done whose bits are true
-    abbrev pub arms_done : List Bool → List Arm → Left → Res Stopped Left Flow
+    abbrev pub arms_done : List Bool → List Arm → JudgedState → Res Stopped JudgedState Flow
     arms_done [] arms s = Go Next s
     arms_done (t ∷ ts) [] s = Go Next s
     arms_done (t ∷ ts) (a ∷ arms) s = bind (arm_done t (stmts_view (out-Arm a).body) s) (go_on (arms_done ts arms))
 
     abbrev pub weight_of_arms : List Arm → ℕ
-    weight_of_arms arms = arm_glue * length arms + weight_of_block p I n gives (switch_view arms)
+    weight_of_arms arms = arm_glue * length arms + weight_of_block p W n gives (switch_view arms)
 
     abbrev pub bits_of_arms : List Arm → ℕ
-    bits_of_arms arms = bits_of_block p I n gives (switch_view arms)
+    bits_of_arms arms = bits_of_block p W n gives (switch_view arms)
 
     pub record ArmsReady (s : Sym) (bits : List Bit) (arms : List Arm) : Type 0 where
       pub fits : IsState p s
@@ -95,5 +95,5 @@ module _ (p : Program) (I : List Placed) (n : ℕ) where
       pub room : length s.net + (weight_of_arms arms + bits_of_arms arms) < 2 ^ 27
 
     pub record ArmsDo (bits : List Bit) (arms : List Arm) (old new : Sym) : Type 0 where
-      pub runs : Runs (Duties p I) p gives (weight_of_arms arms) (bits_of_arms arms) old new (λ v. arms_done (map (holds v old.net) bits) arms)
+      pub runs : Runs W.duties p gives (weight_of_arms arms) (bits_of_arms arms) old new (λ v. arms_done (map (holds v old.net) bits) arms)
       pub level : length new.cells.items ≡ length old.cells.items

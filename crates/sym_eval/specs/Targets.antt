@@ -2,8 +2,8 @@
 use Rattle.std.specs.Prelude.{◌≡◌, ℕ, List}
 use Rattle.c_core.specs.Tree.{Program, Exp, Expr, Node, Var, Index, Exps, NoExp, MoreExp}
 use Rattle.c_core.specs.declared.number.IntType.{IntType}
-use Rattle.c_meaning.specs.Duties.{Placed}
 use Rattle.c_meaning.specs.Objects.{type_of, type_of_object}
+use Rattle.sym_meaning.specs.Mode.{Mode}
 use Rattle.circuits.specs.declared.net.NetNode.{NetNode}
 use Rattle.sym_state.specs.declared.state.Sym.{Sym}
 use Rattle.sym_state.specs.declared.state.Around.{Around}
@@ -63,7 +63,7 @@ module _ (p : Program) where
   storing from (Element o places) = stored_cost p from o
 
   -- an expression was evaluated to the cell that it means
-  pub record Found (I : List Placed) (n : ℕ) (at : Around) (a : Exp) (old new : Sym) (t : Target) : Type 0 where
+  pub record Found (W : Mode) (n : ℕ) (at : Around) (a : Exp) (old new : Sym) (t : Target) : Type 0 where
     pub meant : IsMeant (node_of a) t
     pub is : IsTarget new t
-    pub targets : Targets p I n at (finding a) a (keys_of t new.net) old new
+    pub targets : Targets p W n at (finding a) a (keys_of t new.net) old new

@@ -1,9 +1,10 @@
 -- What the state after main's body says of all havoc runs of a program.
-use Rattle.std.specs.Prelude.{◌≡◌, ℕ, suc, ◌^◌, ◌<◌, ◌≤◌, List, length}
+use Rattle.std.specs.Prelude.{suc, ◌^◌, ◌<◌, ◌≤◌, List, [], length, true}
 use Rattle.c_core.specs.Tree.{Program}
 use Rattle.c_meaning.specs.Duties.{Placed, Duties}
 use Rattle.c_meaning.specs.Exec.{run_main}
-use Rattle.c_meaning.specs.Havoc.{havoc}
+use Rattle.sym_meaning.specs.Judged.{judged}
+use Rattle.sym_meaning.specs.Obliging.{obliging}
 use Rattle.c_meaning.specs.Run.{first_cells}
 use Rattle.circuits.specs.Net.{IsNet, count_ands, count_inputs}
 use Rattle.sym_state.specs.Standing.{IsState}
@@ -22,7 +23,7 @@ pub record IsWhole (p : Program) (I : List Placed) (s : Sym) : Type 0 where
   pub fits : IsState p s
   pub fine : IsNet s.net
   pub numbered : length (Duties p I) < 2 ^ 32
-  pub decides : Decides (Duties p I) p (first_cells p) s (run_main p (havoc p I) (suc (length p.functions)))
+  pub decides : Decides (Duties p I) p (first_cells p) [] s (run_main p (judged p (obliging p I)) (suc (length p.functions)) true)
   pub gates : count_ands s.net ≤ Weight p I
   pub feeds : count_inputs s.net ≤ Bits p
 

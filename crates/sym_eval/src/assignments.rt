@@ -6,7 +6,7 @@ ghost use Rattle.c_meaning.specs.Meaning.{Used};
 ghost use Rattle.sym_exprs.specs.Evaluating.{Ready, Values};
 ghost use Rattle.sym_exprs.specs.Targeting.{TargetReady};
 ghost use Rattle.sym_eval.specs.Targets.{finding, Found};
-ghost use Rattle.sym_invariants.specs.Walking.{program_of, invariants_of, IsWalk};
+ghost use Rattle.sym_invariants.specs.Walking.{program_of, mode_of, IsWalk};
 
 use crate::expressions::eval;
 use crate::targets::{Target, look_target, store_target};
@@ -31,9 +31,9 @@ fn target(
     e: &Expr,
 ) -> Result<Target, OutOfMemory>
     requires walk { IsWalk walk.now }
-    requires ready { TargetReady (program_of walk.now) (invariants_of walk.now) depth at
+    requires ready { TargetReady (program_of walk.now) (mode_of walk.now) depth at
         (finding (program_of walk.now) (expr_view e.now)) sym.old (expr_view e.now) }
-    ensures { IfOk result (λ cell. Found (program_of walk.now) (invariants_of walk.now) depth at (expr_view e.now)
+    ensures { IfOk result (λ cell. Found (program_of walk.now) (mode_of walk.now) depth at (expr_view e.now)
         sym.old sym.new cell) }
 {
     match &e.node {
@@ -59,10 +59,10 @@ pub fn indexed(
     indexes: &[Expr],
 ) -> Result<Target, OutOfMemory>
     requires walk { IsWalk walk.now }
-    requires ready { TargetReady (program_of walk.now) (invariants_of walk.now) depth at
+    requires ready { TargetReady (program_of walk.now) (mode_of walk.now) depth at
         (finding (program_of walk.now) (t.Expr e.now.spot e.now.ty (t.Index object (exprs_view indexes.now)))) sym.old
         (t.Expr e.now.spot e.now.ty (t.Index object (exprs_view indexes.now))) }
-    ensures { IfOk result (λ cell. Found (program_of walk.now) (invariants_of walk.now) depth at
+    ensures { IfOk result (λ cell. Found (program_of walk.now) (mode_of walk.now) depth at
         (t.Expr e.now.spot e.now.ty (t.Index object (exprs_view indexes.now))) sym.old sym.new cell) }
 {
     match indexes {
@@ -84,11 +84,11 @@ fn at_index(
     index: &Expr,
 ) -> Result<Target, OutOfMemory>
     requires walk { IsWalk walk.now }
-    requires ready { TargetReady (program_of walk.now) (invariants_of walk.now) depth at
+    requires ready { TargetReady (program_of walk.now) (mode_of walk.now) depth at
         (finding (program_of walk.now)
         (t.Expr e.now.spot e.now.ty (t.Index object (t.MoreExp (expr_view index.now) t.NoExp)))) sym.old
         (t.Expr e.now.spot e.now.ty (t.Index object (t.MoreExp (expr_view index.now) t.NoExp))) }
-    ensures { IfOk result (λ cell. Found (program_of walk.now) (invariants_of walk.now) depth at
+    ensures { IfOk result (λ cell. Found (program_of walk.now) (mode_of walk.now) depth at
         (t.Expr e.now.spot e.now.ty (t.Index object (t.MoreExp (expr_view index.now) t.NoExp))) sym.old sym.new cell) }
 {
     let i = eval(walk, sym, depth, at, true, index)?;
@@ -109,13 +109,13 @@ fn at_row(
     column: &Expr,
 ) -> Result<Target, OutOfMemory>
     requires walk { IsWalk walk.now }
-    requires ready { TargetReady (program_of walk.now) (invariants_of walk.now) depth at
+    requires ready { TargetReady (program_of walk.now) (mode_of walk.now) depth at
         (finding (program_of walk.now)
         (t.Expr e.now.spot e.now.ty
         (t.Index object (t.MoreExp (expr_view row.now) (t.MoreExp (expr_view column.now) t.NoExp))))) sym.old
         (t.Expr e.now.spot e.now.ty
         (t.Index object (t.MoreExp (expr_view row.now) (t.MoreExp (expr_view column.now) t.NoExp)))) }
-    ensures { IfOk result (λ cell. Found (program_of walk.now) (invariants_of walk.now) depth at
+    ensures { IfOk result (λ cell. Found (program_of walk.now) (mode_of walk.now) depth at
         (t.Expr e.now.spot e.now.ty
         (t.Index object (t.MoreExp (expr_view row.now) (t.MoreExp (expr_view column.now) t.NoExp)))) sym.old sym.new
         cell) }
@@ -141,9 +141,9 @@ pub fn assign(
     from: &Expr,
 ) -> Result<Bits, OutOfMemory>
     requires walk { IsWalk walk.now }
-    requires ready { Ready (program_of walk.now) (invariants_of walk.now) depth at sym.old
+    requires ready { Ready (program_of walk.now) (mode_of walk.now) depth at sym.old
         (t.Expr e.now.spot e.now.ty (t.Assign op (expr_view to.now) (expr_view from.now))) }
-    ensures { IfOk result (λ r. Values (program_of walk.now) (invariants_of walk.now) depth at Used
+    ensures { IfOk result (λ r. Values (program_of walk.now) (mode_of walk.now) depth at Used
         (t.Expr e.now.spot e.now.ty (t.Assign op (expr_view to.now) (expr_view from.now))) sym.old sym.new r.bits) }
 {
     match op {
@@ -170,9 +170,9 @@ fn replace(
     from: &Expr,
 ) -> Result<Bits, OutOfMemory>
     requires walk { IsWalk walk.now }
-    requires ready { Ready (program_of walk.now) (invariants_of walk.now) depth at sym.old
+    requires ready { Ready (program_of walk.now) (mode_of walk.now) depth at sym.old
         (t.Expr e.now.spot e.now.ty (t.Assign None (expr_view to.now) (expr_view from.now))) }
-    ensures { IfOk result (λ r. Values (program_of walk.now) (invariants_of walk.now) depth at Used
+    ensures { IfOk result (λ r. Values (program_of walk.now) (mode_of walk.now) depth at Used
         (t.Expr e.now.spot e.now.ty (t.Assign None (expr_view to.now) (expr_view from.now))) sym.old sym.new r.bits) }
 {
     let cell = target(walk, sym, depth, at, to)?;
@@ -195,9 +195,9 @@ fn update(
     from: &Expr,
 ) -> Result<Bits, OutOfMemory>
     requires walk { IsWalk walk.now }
-    requires ready { Ready (program_of walk.now) (invariants_of walk.now) depth at sym.old
+    requires ready { Ready (program_of walk.now) (mode_of walk.now) depth at sym.old
         (t.Expr e.now.spot e.now.ty (t.Assign (Some op) (expr_view to.now) (expr_view from.now))) }
-    ensures { IfOk result (λ r. Values (program_of walk.now) (invariants_of walk.now) depth at Used
+    ensures { IfOk result (λ r. Values (program_of walk.now) (mode_of walk.now) depth at Used
         (t.Expr e.now.spot e.now.ty (t.Assign (Some op) (expr_view to.now) (expr_view from.now))) sym.old sym.new
         r.bits) }
 {
@@ -232,9 +232,9 @@ pub fn step(
     to: &Expr,
 ) -> Result<Bits, OutOfMemory>
     requires walk { IsWalk walk.now }
-    requires ready { Ready (program_of walk.now) (invariants_of walk.now) depth at sym.old
+    requires ready { Ready (program_of walk.now) (mode_of walk.now) depth at sym.old
         (t.Expr e.now.spot e.now.ty (t.Step op (expr_view to.now))) }
-    ensures { IfOk result (λ r. Values (program_of walk.now) (invariants_of walk.now) depth at Used
+    ensures { IfOk result (λ r. Values (program_of walk.now) (mode_of walk.now) depth at Used
         (t.Expr e.now.spot e.now.ty (t.Step op (expr_view to.now))) sym.old sym.new r.bits) }
 {
     let cell = target(walk, sym, depth, at, to)?;

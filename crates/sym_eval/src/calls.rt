@@ -8,7 +8,7 @@ ghost use Rattle.c_meaning.specs.Objects as objects;
 ghost use Rattle.sym_state.specs.Standing.{IsState};
 ghost use Rattle.sym_eval.specs.Calling.{AllReady, AllValues, CallReady, Called, Ended, RunReady, HasRun};
 ghost use Rattle.sym_exprs.specs.Evaluating.{use_of, Ready, Values};
-ghost use Rattle.sym_invariants.specs.Walking.{program_of, invariants_of, IsWalk};
+ghost use Rattle.sym_invariants.specs.Walking.{program_of, mode_of, IsWalk};
 
 use crate::expressions::eval;
 use crate::parameters::{Argument, set_parameters};
@@ -17,7 +17,7 @@ use c_core::{Expr, Function, IntType, Program, Spot};
 use c_meaning::type_of;
 use circuits::{Bits, const_bits};
 use std::alloc::Global;
-use sym_flow::{come_back, enter};
+use sym_flow::{come_back, enter, need};
 use sym_invariants::Walk;
 use sym_state::{Around, Sym};
 use sym_values::end;
@@ -43,8 +43,8 @@ pub fn evals(
     args: &[Expr],
 ) -> Result<Vec<Argument>, OutOfMemory>
     requires walk { IsWalk walk.now }
-    requires ready { AllReady (program_of walk.now) (invariants_of walk.now) depth at sym.old (exprs_view args.now) }
-    ensures { IfOk result (λ r. AllValues (program_of walk.now) (invariants_of walk.now) depth at (exprs_view args.now)
+    requires ready { AllReady (program_of walk.now) (mode_of walk.now) depth at sym.old (exprs_view args.now) }
+    ensures { IfOk result (λ r. AllValues (program_of walk.now) (mode_of walk.now) depth at (exprs_view args.now)
         sym.old sym.new r.items) }
 {
     let mut arguments = Vec::new(walk.alloc);
@@ -93,9 +93,9 @@ fn run_function(
     arguments: &[Argument],
 ) -> Result<Bits, OutOfMemory>
     requires walk { IsWalk walk.now }
-    requires ready { RunReady (program_of walk.now) (invariants_of walk.now) depth needed (function_view function.now)
+    requires ready { RunReady (program_of walk.now) (mode_of walk.now) depth needed (function_view function.now)
         sym.old arguments.now }
-    ensures { IfOk result (λ r. HasRun (program_of walk.now) (invariants_of walk.now) depth needed
+    ensures { IfOk result (λ r. HasRun (program_of walk.now) (mode_of walk.now) depth needed
         (function_view function.now) arguments.now sym.old sym.new r.bits) }
 {
     let cells = sym.cells.len();
@@ -115,8 +115,9 @@ fn run_function(
         function.body.spot,
         &function.body.form,
     )?;
-    let bits = come_back(walk.program, sym, caller, cells, needed)?;
-    Ok(bits)
+    let back = come_back(walk.program, sym, caller, cells)?;
+    need(sym, walk.program, back.gave, needed)?;
+    Ok(back.value)
 }
 
 // The function of a number, where calls may be this many deep.
@@ -146,9 +147,9 @@ fn call_found(
     arguments: &[Argument],
 ) -> Result<Bits, OutOfMemory>
     requires walk { IsWalk walk.now }
-    requires ready { CallReady (program_of walk.now) (invariants_of walk.now) depth function needed ty sym.old
+    requires ready { CallReady (program_of walk.now) (mode_of walk.now) depth function needed ty sym.old
         arguments.now }
-    ensures { IfOk result (λ r. Called (program_of walk.now) (invariants_of walk.now) depth function needed ty
+    ensures { IfOk result (λ r. Called (program_of walk.now) (mode_of walk.now) depth function needed ty
         arguments.now sym.old sym.new r.bits) }
 {
     match function_at(walk.program, depth, function) {
@@ -178,9 +179,9 @@ pub fn call_defined(
     close: Spot,
 ) -> Result<Bits, OutOfMemory>
     requires walk { IsWalk walk.now }
-    requires ready { Ready (program_of walk.now) (invariants_of walk.now) depth at sym.old
+    requires ready { Ready (program_of walk.now) (mode_of walk.now) depth at sym.old
         (t.Expr spot ty (t.Call (Defined function) (exprs_view args.now) close)) }
-    ensures { IfOk result (λ r. Values (program_of walk.now) (invariants_of walk.now) depth at (use_of used)
+    ensures { IfOk result (λ r. Values (program_of walk.now) (mode_of walk.now) depth at (use_of used)
         (t.Expr spot ty (t.Call (Defined function) (exprs_view args.now) close)) sym.old sym.new r.bits) }
 {
     let arguments = evals(walk, sym, depth, at, args)?;

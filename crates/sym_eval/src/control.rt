@@ -5,7 +5,7 @@ ghost use Rattle.circuits.specs.Net.{holds, IsIn};
 ghost use Rattle.sym_flow.specs.Ways.{Became};
 ghost use Rattle.sym_state.specs.Standing.{IsState};
 ghost use Rattle.sym_exprs.specs.Evaluating.{use_of};
-ghost use Rattle.sym_invariants.specs.Walking.{program_of, invariants_of, IsWalk};
+ghost use Rattle.sym_invariants.specs.Walking.{program_of, mode_of, IsWalk};
 ghost use Rattle.sym_eval.specs.Doing.{ControlReady, Decides};
 ghost use Rattle.sym_eval.specs.Control.{FullReady, FullGives, parting, TestReady, TestDoes, TestIfReady, TestIfDoes, StepReady, StepDoes};
 
@@ -30,8 +30,8 @@ pub fn full(
     e: &Expr,
 ) -> Result<Bits, OutOfMemory>
     requires walk { IsWalk walk.now }
-    requires ready { FullReady (program_of walk.now) (invariants_of walk.now) depth sym.old (expr_view e.now) }
-    ensures { IfOk result (λ r. FullGives (program_of walk.now) (invariants_of walk.now) depth at (use_of used)
+    requires ready { FullReady (program_of walk.now) (mode_of walk.now) depth sym.old (expr_view e.now) }
+    ensures { IfOk result (λ r. FullGives (program_of walk.now) (mode_of walk.now) depth at (use_of used)
         (expr_view e.now) sym.old sym.new r.bits) }
 {
     let place = around(walk, at, e);
@@ -49,8 +49,8 @@ pub fn decided(
     e: &Expr,
 ) -> Result<Bit, OutOfMemory>
     requires walk { IsWalk walk.now }
-    requires ready { ControlReady (program_of walk.now) (invariants_of walk.now) depth sym.old (expr_view e.now) }
-    ensures { IfOk result (λ r. Decides (program_of walk.now) (invariants_of walk.now) depth at (expr_view e.now)
+    requires ready { ControlReady (program_of walk.now) (mode_of walk.now) depth sym.old (expr_view e.now) }
+    ensures { IfOk result (λ r. Decides (program_of walk.now) (mode_of walk.now) depth at (expr_view e.now)
         sym.old sym.new r) }
 {
     let x = full(walk, sym, depth, at, true, e)?;
@@ -83,8 +83,8 @@ pub fn test_turn(
     e: &Expr,
 ) -> Result<(), OutOfMemory>
     requires walk { IsWalk walk.now }
-    requires ready { TestReady (program_of walk.now) (invariants_of walk.now) depth sym.old (expr_view e.now) }
-    ensures { IfOk result (λ r. TestDoes (program_of walk.now) (invariants_of walk.now) depth at (expr_view e.now)
+    requires ready { TestReady (program_of walk.now) (mode_of walk.now) depth sym.old (expr_view e.now) }
+    ensures { IfOk result (λ r. TestDoes (program_of walk.now) (mode_of walk.now) depth at (expr_view e.now)
         sym.old sym.new) }
 {
     let bit = decided(walk, sym, depth, at, e)?;
@@ -102,8 +102,8 @@ pub fn test_turn_if(
     e: &Option<Expr>,
 ) -> Result<(), OutOfMemory>
     requires walk { IsWalk walk.now }
-    requires ready { TestIfReady (program_of walk.now) (invariants_of walk.now) depth sym.old (expr_view_if e.now) }
-    ensures { IfOk result (λ r. TestIfDoes (program_of walk.now) (invariants_of walk.now) depth at (expr_view_if e.now)
+    requires ready { TestIfReady (program_of walk.now) (mode_of walk.now) depth sym.old (expr_view_if e.now) }
+    ensures { IfOk result (λ r. TestIfDoes (program_of walk.now) (mode_of walk.now) depth at (expr_view_if e.now)
         sym.old sym.new) }
 {
     match e {
@@ -125,8 +125,8 @@ pub fn step_on(
     e: &Option<Expr>,
 ) -> Result<(), OutOfMemory>
     requires walk { IsWalk walk.now }
-    requires ready { StepReady (program_of walk.now) (invariants_of walk.now) depth sym.old (expr_view_if e.now) }
-    ensures { IfOk result (λ r. StepDoes (program_of walk.now) (invariants_of walk.now) depth at (expr_view_if e.now)
+    requires ready { StepReady (program_of walk.now) (mode_of walk.now) depth sym.old (expr_view_if e.now) }
+    ensures { IfOk result (λ r. StepDoes (program_of walk.now) (mode_of walk.now) depth at (expr_view_if e.now)
         sym.old sym.new) }
 {
     match e {

@@ -2,7 +2,7 @@
 ghost use Rattle.std.specs.Prelude.{◌≡◌, ◌*◌, IfOk};
 ghost use Rattle.c_core.specs.Tree as t;
 ghost use Rattle.c_core.specs.View.{expr_view, exprs_view, first_view, init_view, names_view, rows_view};
-ghost use Rattle.sym_invariants.specs.Walking.{program_of, invariants_of, IsWalk};
+ghost use Rattle.sym_invariants.specs.Walking.{program_of, mode_of, IsWalk};
 ghost use Rattle.sym_eval.specs.Doing.{InitialsReady, InitialsDo, RowsReady, RowsDo, InitialReady, InitialDoes, NamesReady, NamesDo, FirstReady, FirstDoes};
 
 use crate::control::full;
@@ -27,9 +27,9 @@ fn initial_value(
     e: &Expr,
 ) -> Result<(), OutOfMemory>
     requires walk { IsWalk walk.now }
-    requires ready { InitialsReady (program_of walk.now) (invariants_of walk.now) depth object sym.old
+    requires ready { InitialsReady (program_of walk.now) (mode_of walk.now) depth object sym.old
         (t.MoreExp (expr_view e.now) t.NoExp) }
-    ensures { IfOk result (λ r. InitialsDo (program_of walk.now) (invariants_of walk.now) depth at object index
+    ensures { IfOk result (λ r. InitialsDo (program_of walk.now) (mode_of walk.now) depth at object index
         (t.MoreExp (expr_view e.now) t.NoExp) sym.old sym.new) }
 {
     let ty = type_of_object(walk.program, object);
@@ -52,9 +52,9 @@ fn initial_values(
     es: &[Expr],
 ) -> Result<(), OutOfMemory>
     requires walk { IsWalk walk.now }
-    requires ready { InitialsReady (program_of walk.now) (invariants_of walk.now) depth object sym.old
+    requires ready { InitialsReady (program_of walk.now) (mode_of walk.now) depth object sym.old
         (exprs_view es.now) }
-    ensures { IfOk result (λ r. InitialsDo (program_of walk.now) (invariants_of walk.now) depth at object first
+    ensures { IfOk result (λ r. InitialsDo (program_of walk.now) (mode_of walk.now) depth at object first
         (exprs_view es.now) sym.old sym.new) }
 {
     for (index, e) in es.iter().enumerate() {
@@ -92,9 +92,9 @@ fn initial_rows(
     rows: &[Row],
 ) -> Result<(), OutOfMemory>
     requires walk { IsWalk walk.now }
-    requires ready { RowsReady (program_of walk.now) (invariants_of walk.now) depth object sym.old
+    requires ready { RowsReady (program_of walk.now) (mode_of walk.now) depth object sym.old
         (rows_view rows.now) }
-    ensures { IfOk result (λ r. RowsDo (program_of walk.now) (invariants_of walk.now) depth at object
+    ensures { IfOk result (λ r. RowsDo (program_of walk.now) (mode_of walk.now) depth at object
         (rows_view rows.now) sym.old sym.new) }
 {
     let columns = columns_of_object(walk.program, object);
@@ -117,9 +117,9 @@ fn initial(
     init: &Init,
 ) -> Result<(), OutOfMemory>
     requires walk { IsWalk walk.now }
-    requires ready { InitialReady (program_of walk.now) (invariants_of walk.now) depth object sym.old
+    requires ready { InitialReady (program_of walk.now) (mode_of walk.now) depth object sym.old
         (init_view init.now) }
-    ensures { IfOk result (λ r. InitialDoes (program_of walk.now) (invariants_of walk.now) depth at spot object
+    ensures { IfOk result (λ r. InitialDoes (program_of walk.now) (mode_of walk.now) depth at spot object
         (init_view init.now) sym.old sym.new) }
 {
     match init {
@@ -152,9 +152,9 @@ fn introduce(
     name: &Declared,
 ) -> Result<(), OutOfMemory>
     requires walk { IsWalk walk.now }
-    requires ready { NamesReady (program_of walk.now) (invariants_of walk.now) depth sym.old
+    requires ready { NamesReady (program_of walk.now) (mode_of walk.now) depth sym.old
         (t.MoreName name.now.spot name.now.object (init_view name.now.init) t.NoName) }
-    ensures { IfOk result (λ r. NamesDo (program_of walk.now) (invariants_of walk.now) depth at
+    ensures { IfOk result (λ r. NamesDo (program_of walk.now) (mode_of walk.now) depth at
         (t.MoreName name.now.spot name.now.object (init_view name.now.init) t.NoName) sym.old sym.new) }
 {
     let object = name.object;
@@ -175,8 +175,8 @@ pub fn declare_names(
     names: &[Declared],
 ) -> Result<(), OutOfMemory>
     requires walk { IsWalk walk.now }
-    requires ready { NamesReady (program_of walk.now) (invariants_of walk.now) depth sym.old (names_view names.now) }
-    ensures { IfOk result (λ r. NamesDo (program_of walk.now) (invariants_of walk.now) depth at (names_view names.now)
+    requires ready { NamesReady (program_of walk.now) (mode_of walk.now) depth sym.old (names_view names.now) }
+    ensures { IfOk result (λ r. NamesDo (program_of walk.now) (mode_of walk.now) depth at (names_view names.now)
         sym.old sym.new) }
 {
     for name in names {
@@ -196,8 +196,8 @@ pub fn first(
     start: &First,
 ) -> Result<(), OutOfMemory>
     requires walk { IsWalk walk.now }
-    requires ready { FirstReady (program_of walk.now) (invariants_of walk.now) depth sym.old (first_view start.now) }
-    ensures { IfOk result (λ r. FirstDoes (program_of walk.now) (invariants_of walk.now) depth at (first_view start.now)
+    requires ready { FirstReady (program_of walk.now) (mode_of walk.now) depth sym.old (first_view start.now) }
+    ensures { IfOk result (λ r. FirstDoes (program_of walk.now) (mode_of walk.now) depth at (first_view start.now)
         sym.old sym.new) }
 {
     match start {

@@ -5,7 +5,7 @@ ghost use Rattle.c_core.specs.View.{expr_view, exprs_view};
 ghost use Rattle.c_core.specs.declared.tree.Callee.TheVariants.{Exit};
 ghost use Rattle.c_meaning.specs.Meaning.{Used};
 ghost use Rattle.sym_exprs.specs.Evaluating.{use_of, Ready, Values, ReadyWhere, ValuesWhere};
-ghost use Rattle.sym_invariants.specs.Walking.{program_of, invariants_of, IsWalk};
+ghost use Rattle.sym_invariants.specs.Walking.{program_of, mode_of, IsWalk};
 
 use crate::assignments::{assign, indexed, step};
 use crate::calls::call_defined;
@@ -33,8 +33,8 @@ pub fn eval(
     e: &Expr,
 ) -> Result<Bits, OutOfMemory>
     requires walk { IsWalk walk.now }
-    requires ready { Ready (program_of walk.now) (invariants_of walk.now) depth at sym.old (expr_view e.now) }
-    ensures { IfOk result (λ r. Values (program_of walk.now) (invariants_of walk.now) depth at (use_of used)
+    requires ready { Ready (program_of walk.now) (mode_of walk.now) depth at sym.old (expr_view e.now) }
+    ensures { IfOk result (λ r. Values (program_of walk.now) (mode_of walk.now) depth at (use_of used)
         (expr_view e.now) sym.old sym.new r.bits) }
 {
     match &e.node {
@@ -85,9 +85,9 @@ fn constant(
     value: i128,
 ) -> Result<Bits, OutOfMemory>
     requires walk { IsWalk walk.now }
-    requires ready { Ready (program_of walk.now) (invariants_of walk.now) depth at sym.old
+    requires ready { Ready (program_of walk.now) (mode_of walk.now) depth at sym.old
         (t.Expr e.now.spot e.now.ty (t.Const value)) }
-    ensures { IfOk result (λ r. Values (program_of walk.now) (invariants_of walk.now) depth at Used
+    ensures { IfOk result (λ r. Values (program_of walk.now) (mode_of walk.now) depth at Used
         (t.Expr e.now.spot e.now.ty (t.Const value)) sym.old sym.new r.bits) }
 {
     let r = const_bits(walk.alloc, &sym.net, walk.program.model, type_of(e), value)?;
@@ -104,9 +104,9 @@ fn scalar(
     object: u32,
 ) -> Result<Bits, OutOfMemory>
     requires walk { IsWalk walk.now }
-    requires ready { Ready (program_of walk.now) (invariants_of walk.now) depth at sym.old
+    requires ready { Ready (program_of walk.now) (mode_of walk.now) depth at sym.old
         (t.Expr e.now.spot e.now.ty (t.Var object)) }
-    ensures { IfOk result (λ r. Values (program_of walk.now) (invariants_of walk.now) depth at Used
+    ensures { IfOk result (λ r. Values (program_of walk.now) (mode_of walk.now) depth at Used
         (t.Expr e.now.spot e.now.ty (t.Var object)) sym.old sym.new r.bits) }
 {
     let r = look(walk.alloc, walk.program, sym, object, 0, type_of(e))?;
@@ -125,9 +125,9 @@ fn element(
     indexes: &[Expr],
 ) -> Result<Bits, OutOfMemory>
     requires walk { IsWalk walk.now }
-    requires ready { Ready (program_of walk.now) (invariants_of walk.now) depth at sym.old
+    requires ready { Ready (program_of walk.now) (mode_of walk.now) depth at sym.old
         (t.Expr e.now.spot e.now.ty (t.Index object (exprs_view indexes.now))) }
-    ensures { IfOk result (λ r. Values (program_of walk.now) (invariants_of walk.now) depth at Used
+    ensures { IfOk result (λ r. Values (program_of walk.now) (mode_of walk.now) depth at Used
         (t.Expr e.now.spot e.now.ty (t.Index object (exprs_view indexes.now))) sym.old sym.new r.bits) }
 {
     let cell = indexed(walk, sym, depth, at, e, object, indexes)?;
@@ -147,9 +147,9 @@ fn unary(
     of: &Expr,
 ) -> Result<Bits, OutOfMemory>
     requires walk { IsWalk walk.now }
-    requires ready { Ready (program_of walk.now) (invariants_of walk.now) depth at sym.old
+    requires ready { Ready (program_of walk.now) (mode_of walk.now) depth at sym.old
         (t.Expr e.now.spot e.now.ty (t.Unary op (expr_view of.now))) }
-    ensures { IfOk result (λ r. Values (program_of walk.now) (invariants_of walk.now) depth at Used
+    ensures { IfOk result (λ r. Values (program_of walk.now) (mode_of walk.now) depth at Used
         (t.Expr e.now.spot e.now.ty (t.Unary op (expr_view of.now))) sym.old sym.new r.bits) }
 {
     let x = eval(walk, sym, depth, at, true, of)?;
@@ -170,9 +170,9 @@ fn binary(
     right: &Expr,
 ) -> Result<Bits, OutOfMemory>
     requires walk { IsWalk walk.now }
-    requires ready { Ready (program_of walk.now) (invariants_of walk.now) depth at sym.old
+    requires ready { Ready (program_of walk.now) (mode_of walk.now) depth at sym.old
         (t.Expr e.now.spot e.now.ty (t.Binary op (expr_view left.now) (expr_view right.now))) }
-    ensures { IfOk result (λ r. Values (program_of walk.now) (invariants_of walk.now) depth at Used
+    ensures { IfOk result (λ r. Values (program_of walk.now) (mode_of walk.now) depth at Used
         (t.Expr e.now.spot e.now.ty (t.Binary op (expr_view left.now) (expr_view right.now))) sym.old sym.new r.bits) }
 {
     let x = eval(walk, sym, depth, at, true, left)?;
@@ -194,9 +194,9 @@ fn cast(
     of: &Expr,
 ) -> Result<Bits, OutOfMemory>
     requires walk { IsWalk walk.now }
-    requires ready { Ready (program_of walk.now) (invariants_of walk.now) depth at sym.old
+    requires ready { Ready (program_of walk.now) (mode_of walk.now) depth at sym.old
         (t.Expr e.now.spot e.now.ty (t.Cast (expr_view of.now))) }
-    ensures { IfOk result (λ r. Values (program_of walk.now) (invariants_of walk.now) depth at Used
+    ensures { IfOk result (λ r. Values (program_of walk.now) (mode_of walk.now) depth at Used
         (t.Expr e.now.spot e.now.ty (t.Cast (expr_view of.now))) sym.old sym.new r.bits) }
 {
     match e.ty {
@@ -224,9 +224,9 @@ fn comma(
     last: &Expr,
 ) -> Result<Bits, OutOfMemory>
     requires walk { IsWalk walk.now }
-    requires ready { Ready (program_of walk.now) (invariants_of walk.now) depth at sym.old
+    requires ready { Ready (program_of walk.now) (mode_of walk.now) depth at sym.old
         (t.Expr e.now.spot e.now.ty (t.Comma (expr_view first.now) (expr_view last.now))) }
-    ensures { IfOk result (λ r. Values (program_of walk.now) (invariants_of walk.now) depth at Used
+    ensures { IfOk result (λ r. Values (program_of walk.now) (mode_of walk.now) depth at Used
         (t.Expr e.now.spot e.now.ty (t.Comma (expr_view first.now) (expr_view last.now))) sym.old sym.new r.bits) }
 {
     let _value = eval(walk, sym, depth, at, false, first)?;
@@ -246,8 +246,8 @@ fn eval_where(
     e: &Expr,
 ) -> Result<Bits, OutOfMemory>
     requires walk { IsWalk walk.now }
-    requires ready { ReadyWhere (program_of walk.now) (invariants_of walk.now) depth at go sym.old (expr_view e.now) }
-    ensures { IfOk result (λ r. ValuesWhere (program_of walk.now) (invariants_of walk.now) depth at go (expr_view e.now)
+    requires ready { ReadyWhere (program_of walk.now) (mode_of walk.now) depth at go sym.old (expr_view e.now) }
+    ensures { IfOk result (λ r. ValuesWhere (program_of walk.now) (mode_of walk.now) depth at go (expr_view e.now)
         sym.old sym.new r.bits) }
 {
     let skipped = sym.net.and(sym.live, not(go))?;
@@ -271,9 +271,9 @@ fn logic(
     right: &Expr,
 ) -> Result<Bits, OutOfMemory>
     requires walk { IsWalk walk.now }
-    requires ready { Ready (program_of walk.now) (invariants_of walk.now) depth at sym.old
+    requires ready { Ready (program_of walk.now) (mode_of walk.now) depth at sym.old
         (t.Expr e.now.spot e.now.ty (t.Logic both (expr_view left.now) (expr_view right.now))) }
-    ensures { IfOk result (λ r. Values (program_of walk.now) (invariants_of walk.now) depth at Used
+    ensures { IfOk result (λ r. Values (program_of walk.now) (mode_of walk.now) depth at Used
         (t.Expr e.now.spot e.now.ty (t.Logic both (expr_view left.now) (expr_view right.now))) sym.old sym.new r.bits) }
 {
     let x = eval(walk, sym, depth, at, true, left)?;
@@ -302,9 +302,9 @@ fn conditional(
     no: &Expr,
 ) -> Result<Bits, OutOfMemory>
     requires walk { IsWalk walk.now }
-    requires ready { Ready (program_of walk.now) (invariants_of walk.now) depth at sym.old
+    requires ready { Ready (program_of walk.now) (mode_of walk.now) depth at sym.old
         (t.Expr e.now.spot e.now.ty (t.Choose mark (expr_view condition.now) (expr_view yes.now) (expr_view no.now))) }
-    ensures { IfOk result (λ r. Values (program_of walk.now) (invariants_of walk.now) depth at Used
+    ensures { IfOk result (λ r. Values (program_of walk.now) (mode_of walk.now) depth at Used
         (t.Expr e.now.spot e.now.ty (t.Choose mark (expr_view condition.now) (expr_view yes.now) (expr_view no.now)))
         sym.old sym.new r.bits) }
 {
@@ -334,9 +334,9 @@ fn pick(
     no: &Expr,
 ) -> Result<Bits, OutOfMemory>
     requires walk { IsWalk walk.now }
-    requires ready { Ready (program_of walk.now) (invariants_of walk.now) depth at sym.old
+    requires ready { Ready (program_of walk.now) (mode_of walk.now) depth at sym.old
         (t.Expr spot (Some to) (t.Choose mark (expr_view condition.now) (expr_view yes.now) (expr_view no.now))) }
-    ensures { IfOk result (λ r. Values (program_of walk.now) (invariants_of walk.now) depth at Used
+    ensures { IfOk result (λ r. Values (program_of walk.now) (mode_of walk.now) depth at Used
         (t.Expr spot (Some to) (t.Choose mark (expr_view condition.now) (expr_view yes.now) (expr_view no.now))) sym.old
         sym.new r.bits) }
 {
@@ -365,9 +365,9 @@ fn void_arms(
     no: &Expr,
 ) -> Result<Bits, OutOfMemory>
     requires walk { IsWalk walk.now }
-    requires ready { Ready (program_of walk.now) (invariants_of walk.now) depth at sym.old
+    requires ready { Ready (program_of walk.now) (mode_of walk.now) depth at sym.old
         (t.Expr spot None (t.Choose mark (expr_view condition.now) (expr_view yes.now) (expr_view no.now))) }
-    ensures { IfOk result (λ r. Values (program_of walk.now) (invariants_of walk.now) depth at Used
+    ensures { IfOk result (λ r. Values (program_of walk.now) (mode_of walk.now) depth at Used
         (t.Expr spot None (t.Choose mark (expr_view condition.now) (expr_view yes.now) (expr_view no.now))) sym.old
         sym.new r.bits) }
 {
@@ -393,9 +393,9 @@ fn call(
     close: Spot,
 ) -> Result<Bits, OutOfMemory>
     requires walk { IsWalk walk.now }
-    requires ready { Ready (program_of walk.now) (invariants_of walk.now) depth at sym.old
+    requires ready { Ready (program_of walk.now) (mode_of walk.now) depth at sym.old
         (t.Expr e.now.spot e.now.ty (t.Call callee (exprs_view args.now) close)) }
-    ensures { IfOk result (λ r. Values (program_of walk.now) (invariants_of walk.now) depth at (use_of used)
+    ensures { IfOk result (λ r. Values (program_of walk.now) (mode_of walk.now) depth at (use_of used)
         (t.Expr e.now.spot e.now.ty (t.Call callee (exprs_view args.now) close)) sym.old sym.new r.bits) }
 {
     match callee {
@@ -431,9 +431,9 @@ fn exit(
     close: Spot,
 ) -> Result<Bits, OutOfMemory>
     requires walk { IsWalk walk.now }
-    requires ready { Ready (program_of walk.now) (invariants_of walk.now) depth at sym.old
+    requires ready { Ready (program_of walk.now) (mode_of walk.now) depth at sym.old
         (t.Expr e.now.spot e.now.ty (t.Call Exit (exprs_view args.now) close)) }
-    ensures { IfOk result (λ r. Values (program_of walk.now) (invariants_of walk.now) depth at Used
+    ensures { IfOk result (λ r. Values (program_of walk.now) (mode_of walk.now) depth at Used
         (t.Expr e.now.spot e.now.ty (t.Call Exit (exprs_view args.now) close)) sym.old sym.new r.bits) }
 {
     let r = eval(walk, sym, depth, at, true, &args[0])?;

@@ -5,7 +5,7 @@ ghost use Rattle.c_core.specs.View.{expr_view, expr_view_if, first_view, form_vi
 ghost use Rattle.c_meaning.specs.Meaning.{WhileLoop, DoLoop, ForLoop};
 ghost use Rattle.sym_state.specs.Standing.{IsState};
 ghost use Rattle.sym_weight.specs.Weight.{placed_weight};
-ghost use Rattle.sym_invariants.specs.Walking.{program_of, invariants_of, IsWalk};
+ghost use Rattle.sym_invariants.specs.Walking.{program_of, invariants_of, mode_of, IsWalk};
 ghost use Rattle.sym_eval.specs.Doing.{FormReady, FormDoes};
 ghost use Rattle.sym_eval.specs.Looping.{BodyReady, BodyDoes, TurnReady, TurnDoes, changed_bits, HeadDoes, LoopReady, LoopDoes, ForReady, ForDoes};
 
@@ -32,8 +32,8 @@ fn loop_body(
     body: &Stmt,
 ) -> Result<(), OutOfMemory>
     requires walk { IsWalk walk.now }
-    requires ready { BodyReady (program_of walk.now) (invariants_of walk.now) depth gives sym.old (stmt_view body.now) }
-    ensures { IfOk result (λ r. BodyDoes (program_of walk.now) (invariants_of walk.now) depth gives (stmt_view body.now)
+    requires ready { BodyReady (program_of walk.now) (mode_of walk.now) depth gives sym.old (stmt_view body.now) }
+    ensures { IfOk result (λ r. BodyDoes (program_of walk.now) (mode_of walk.now) depth gives (stmt_view body.now)
         sym.old sym.new) }
 {
     let cells = sym.cells.len();
@@ -55,9 +55,9 @@ fn while_turn(
     body: &Stmt,
 ) -> Result<(), OutOfMemory>
     requires walk { IsWalk walk.now }
-    requires ready { TurnReady (program_of walk.now) (invariants_of walk.now) depth gives sym.old
+    requires ready { TurnReady (program_of walk.now) (mode_of walk.now) depth gives sym.old
         (Some (WhileLoop (expr_view test.now) (stmt_view body.now))) }
-    ensures { IfOk result (λ r. TurnDoes (program_of walk.now) (invariants_of walk.now) depth gives at
+    ensures { IfOk result (λ r. TurnDoes (program_of walk.now) (mode_of walk.now) depth gives at
         (Some (WhileLoop (expr_view test.now) (stmt_view body.now))) sym.old sym.new) }
 {
     test_turn(walk, sym, depth, at, test)?;
@@ -77,9 +77,9 @@ fn do_turn(
     test: &Expr,
 ) -> Result<(), OutOfMemory>
     requires walk { IsWalk walk.now }
-    requires ready { TurnReady (program_of walk.now) (invariants_of walk.now) depth gives sym.old
+    requires ready { TurnReady (program_of walk.now) (mode_of walk.now) depth gives sym.old
         (Some (DoLoop (stmt_view body.now) (expr_view test.now))) }
-    ensures { IfOk result (λ r. TurnDoes (program_of walk.now) (invariants_of walk.now) depth gives at
+    ensures { IfOk result (λ r. TurnDoes (program_of walk.now) (mode_of walk.now) depth gives at
         (Some (DoLoop (stmt_view body.now) (expr_view test.now))) sym.old sym.new) }
 {
     loop_body(walk, sym, depth, gives, body)?;
@@ -100,9 +100,9 @@ fn for_turn(
     body: &Stmt,
 ) -> Result<(), OutOfMemory>
     requires walk { IsWalk walk.now }
-    requires ready { TurnReady (program_of walk.now) (invariants_of walk.now) depth gives sym.old
+    requires ready { TurnReady (program_of walk.now) (mode_of walk.now) depth gives sym.old
         (Some (ForLoop (expr_view_if test.now) (expr_view_if step.now) (stmt_view body.now))) }
-    ensures { IfOk result (λ r. TurnDoes (program_of walk.now) (invariants_of walk.now) depth gives at
+    ensures { IfOk result (λ r. TurnDoes (program_of walk.now) (mode_of walk.now) depth gives at
         (Some (ForLoop (expr_view_if test.now) (expr_view_if step.now) (stmt_view body.now))) sym.old sym.new) }
 {
     test_turn_if(walk, sym, depth, at, test)?;
@@ -123,9 +123,9 @@ fn turn(
     f: &Form,
 ) -> Result<(), OutOfMemory>
     requires walk { IsWalk walk.now }
-    requires ready { TurnReady (program_of walk.now) (invariants_of walk.now) depth gives sym.old
+    requires ready { TurnReady (program_of walk.now) (mode_of walk.now) depth gives sym.old
         (loop_of (form_view f.now)) }
-    ensures { IfOk result (λ r. TurnDoes (program_of walk.now) (invariants_of walk.now) depth gives at
+    ensures { IfOk result (λ r. TurnDoes (program_of walk.now) (mode_of walk.now) depth gives at
         (loop_of (form_view f.now)) sym.old sym.new) }
 {
     match f {
@@ -181,9 +181,9 @@ fn loop_scope(
     f: &Form,
 ) -> Result<(), OutOfMemory>
     requires walk { IsWalk walk.now }
-    requires ready { LoopReady (program_of walk.now) (invariants_of walk.now) depth gives at sym.old
+    requires ready { LoopReady (program_of walk.now) (mode_of walk.now) depth gives at sym.old
         (loop_of (form_view f.now)) }
-    ensures { IfOk result (λ r. LoopDoes (program_of walk.now) (invariants_of walk.now) depth gives at
+    ensures { IfOk result (λ r. LoopDoes (program_of walk.now) (mode_of walk.now) depth gives at
         (loop_of (form_view f.now)) sym.old sym.new) }
 {
     let cells = sym.cells.len();
@@ -209,9 +209,9 @@ fn for_scope(
     f: &Form,
 ) -> Result<(), OutOfMemory>
     requires walk { IsWalk walk.now }
-    requires ready { ForReady (program_of walk.now) (invariants_of walk.now) depth gives at sym.old
+    requires ready { ForReady (program_of walk.now) (mode_of walk.now) depth gives at sym.old
         (first_view start.now) (loop_of (form_view f.now)) }
-    ensures { IfOk result (λ r. ForDoes (program_of walk.now) (invariants_of walk.now) depth gives at
+    ensures { IfOk result (λ r. ForDoes (program_of walk.now) (mode_of walk.now) depth gives at
         (first_view start.now) (loop_of (form_view f.now)) sym.old sym.new) }
 {
     let cells = sym.cells.len();
@@ -234,8 +234,8 @@ pub fn one_loop(
 ) -> Result<(), OutOfMemory>
     requires walk { IsWalk walk.now }
     requires looping { IsTrue (is_loop (form_view f.now)) }
-    requires ready { FormReady (program_of walk.now) (invariants_of walk.now) depth gives at sym.old (form_view f.now) }
-    ensures { IfOk result (λ r. FormDoes (program_of walk.now) (invariants_of walk.now) depth gives at (form_view f.now)
+    requires ready { FormReady (program_of walk.now) (mode_of walk.now) depth gives at sym.old (form_view f.now) }
+    ensures { IfOk result (λ r. FormDoes (program_of walk.now) (mode_of walk.now) depth gives at (form_view f.now)
         sym.old sym.new) }
 {
     match f {

@@ -18,7 +18,8 @@ use c_meaning::PlacedInvariant;
 use std::alloc::Global;
 use sym_duties::{Obligations, SymFault};
 use sym_flow::enter;
-use sym_invariants::Walk;
+use sym_invariants::{Obliging, Walk};
+use sym_meaning::havoc_runs_are_judged;
 use sym_state::Sym;
 use sym_weight::weigh;
 use sym_whole::start;
@@ -54,7 +55,7 @@ fn whole(walk: &Walk) -> Result<Sym, OutOfMemory>
 {
     let program = walk.program;
     let depth = small(program.functions.len())?;
-    let mut sym = start(walk.alloc, program, walk.duties.len() as u32)?;
+    let mut sym = start(walk.alloc, program, walk.mode.duties.len() as u32)?;
     let main = &program.functions.as_slice()[program.main as usize];
     let _caller = enter(walk.alloc, program, &mut sym, type_or_int(main.result))?;
     let body = &main.body;
@@ -78,10 +79,13 @@ fn made(
     let walk = Walk {
         alloc,
         program,
-        invariants: invariants.as_slice(),
-        duties: list.as_slice(),
+        mode: Obliging {
+            invariants: invariants.as_slice(),
+            duties: list.as_slice(),
+        },
     };
     let sym = whole(&walk)?;
+    havoc_runs_are_judged();
     test_sites(alloc, program, sym.sites.as_slice())?;
     Ok(Obligations {
         list,

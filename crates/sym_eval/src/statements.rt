@@ -3,7 +3,7 @@ ghost use Rattle.std.specs.Prelude.{IfOk, Some};
 ghost use Rattle.c_core.specs.Tree as t;
 ghost use Rattle.c_core.specs.View.{expr_view, expr_view_if, form_view, stmt_view, stmts_view};
 ghost use Rattle.sym_weight.specs.Views.{else_of};
-ghost use Rattle.sym_invariants.specs.Walking.{program_of, invariants_of, IsWalk};
+ghost use Rattle.sym_invariants.specs.Walking.{program_of, mode_of, IsWalk};
 ghost use Rattle.sym_eval.specs.Doing.{Ready, Does, ScopeDoes, FormReady, FormDoes, ElseReady, ElseDoes, BlockReady, BlockDoes};
 
 use crate::control::{decided, full};
@@ -30,8 +30,8 @@ pub fn statement(
     s: &Stmt,
 ) -> Result<(), OutOfMemory>
     requires walk { IsWalk walk.now }
-    requires ready { Ready (program_of walk.now) (invariants_of walk.now) depth gives sym.old (stmt_view s.now) }
-    ensures { IfOk result (λ r. Does (program_of walk.now) (invariants_of walk.now) depth gives (stmt_view s.now)
+    requires ready { Ready (program_of walk.now) (mode_of walk.now) depth gives sym.old (stmt_view s.now) }
+    ensures { IfOk result (λ r. Does (program_of walk.now) (mode_of walk.now) depth gives (stmt_view s.now)
         sym.old sym.new) }
 {
     test_all(walk, sym, false, s.spot, DutyKind::Location)?;
@@ -50,8 +50,8 @@ pub fn form(
     f: &Form,
 ) -> Result<(), OutOfMemory>
     requires walk { IsWalk walk.now }
-    requires ready { FormReady (program_of walk.now) (invariants_of walk.now) depth gives at sym.old (form_view f.now) }
-    ensures { IfOk result (λ r. FormDoes (program_of walk.now) (invariants_of walk.now) depth gives at (form_view f.now)
+    requires ready { FormReady (program_of walk.now) (mode_of walk.now) depth gives at sym.old (form_view f.now) }
+    ensures { IfOk result (λ r. FormDoes (program_of walk.now) (mode_of walk.now) depth gives at (form_view f.now)
         sym.old sym.new) }
 {
     match f {
@@ -119,9 +119,9 @@ fn only(
     e: &Expr,
 ) -> Result<(), OutOfMemory>
     requires walk { IsWalk walk.now }
-    requires ready { FormReady (program_of walk.now) (invariants_of walk.now) depth gives at sym.old
+    requires ready { FormReady (program_of walk.now) (mode_of walk.now) depth gives at sym.old
         (t.Do (expr_view e.now)) }
-    ensures { IfOk result (λ r. FormDoes (program_of walk.now) (invariants_of walk.now) depth gives at
+    ensures { IfOk result (λ r. FormDoes (program_of walk.now) (mode_of walk.now) depth gives at
         (t.Do (expr_view e.now)) sym.old sym.new) }
 {
     let _value = full(walk, sym, depth, at, false, e)?;
@@ -139,9 +139,9 @@ fn give_as(
     e: &Expr,
 ) -> Result<(), OutOfMemory>
     requires walk { IsWalk walk.now }
-    requires ready { FormReady (program_of walk.now) (invariants_of walk.now) depth (Some to) at sym.old
+    requires ready { FormReady (program_of walk.now) (mode_of walk.now) depth (Some to) at sym.old
         (t.Return (Some (expr_view e.now))) }
-    ensures { IfOk result (λ r. FormDoes (program_of walk.now) (invariants_of walk.now) depth (Some to) at
+    ensures { IfOk result (λ r. FormDoes (program_of walk.now) (mode_of walk.now) depth (Some to) at
         (t.Return (Some (expr_view e.now))) sym.old sym.new) }
 {
     let x = full(walk, sym, depth, at, true, e)?;
@@ -161,9 +161,9 @@ fn give_value(
     e: &Expr,
 ) -> Result<(), OutOfMemory>
     requires walk { IsWalk walk.now }
-    requires ready { FormReady (program_of walk.now) (invariants_of walk.now) depth gives at sym.old
+    requires ready { FormReady (program_of walk.now) (mode_of walk.now) depth gives at sym.old
         (t.Return (Some (expr_view e.now))) }
-    ensures { IfOk result (λ r. FormDoes (program_of walk.now) (invariants_of walk.now) depth gives at
+    ensures { IfOk result (λ r. FormDoes (program_of walk.now) (mode_of walk.now) depth gives at
         (t.Return (Some (expr_view e.now))) sym.old sym.new) }
 {
     match gives {
@@ -187,9 +187,9 @@ fn give_back(
     e: &Option<Expr>,
 ) -> Result<(), OutOfMemory>
     requires walk { IsWalk walk.now }
-    requires ready { FormReady (program_of walk.now) (invariants_of walk.now) depth gives at sym.old
+    requires ready { FormReady (program_of walk.now) (mode_of walk.now) depth gives at sym.old
         (t.Return (expr_view_if e.now)) }
-    ensures { IfOk result (λ r. FormDoes (program_of walk.now) (invariants_of walk.now) depth gives at
+    ensures { IfOk result (λ r. FormDoes (program_of walk.now) (mode_of walk.now) depth gives at
         (t.Return (expr_view_if e.now)) sym.old sym.new) }
 {
     match e {
@@ -214,9 +214,9 @@ pub fn execs(
     body: &[Stmt],
 ) -> Result<(), OutOfMemory>
     requires walk { IsWalk walk.now }
-    requires ready { BlockReady (program_of walk.now) (invariants_of walk.now) depth gives sym.old
+    requires ready { BlockReady (program_of walk.now) (mode_of walk.now) depth gives sym.old
         (stmts_view body.now) }
-    ensures { IfOk result (λ r. BlockDoes (program_of walk.now) (invariants_of walk.now) depth gives
+    ensures { IfOk result (λ r. BlockDoes (program_of walk.now) (mode_of walk.now) depth gives
         (stmts_view body.now) sym.old sym.new) }
 {
     for s in body {
@@ -237,9 +237,9 @@ fn block(
     body: &[Stmt],
 ) -> Result<(), OutOfMemory>
     requires walk { IsWalk walk.now }
-    requires ready { FormReady (program_of walk.now) (invariants_of walk.now) depth gives at sym.old
+    requires ready { FormReady (program_of walk.now) (mode_of walk.now) depth gives at sym.old
         (t.Block (stmts_view body.now)) }
-    ensures { IfOk result (λ r. FormDoes (program_of walk.now) (invariants_of walk.now) depth gives at
+    ensures { IfOk result (λ r. FormDoes (program_of walk.now) (mode_of walk.now) depth gives at
         (t.Block (stmts_view body.now)) sym.old sym.new) }
 {
     let cells = sym.cells.len();
@@ -259,8 +259,8 @@ fn arm(
     s: &Stmt,
 ) -> Result<(), OutOfMemory>
     requires walk { IsWalk walk.now }
-    requires ready { Ready (program_of walk.now) (invariants_of walk.now) depth gives sym.old (stmt_view s.now) }
-    ensures { IfOk result (λ r. ScopeDoes (program_of walk.now) (invariants_of walk.now) depth gives (stmt_view s.now)
+    requires ready { Ready (program_of walk.now) (mode_of walk.now) depth gives sym.old (stmt_view s.now) }
+    ensures { IfOk result (λ r. ScopeDoes (program_of walk.now) (mode_of walk.now) depth gives (stmt_view s.now)
         sym.old sym.new) }
 {
     let outer = sym.cells.len();
@@ -279,8 +279,8 @@ fn otherwise(
     no: &Option<Box<Stmt>>,
 ) -> Result<(), OutOfMemory>
     requires walk { IsWalk walk.now }
-    requires ready { ElseReady (program_of walk.now) (invariants_of walk.now) depth gives sym.old (else_of no.now) }
-    ensures { IfOk result (λ r. ElseDoes (program_of walk.now) (invariants_of walk.now) depth gives (else_of no.now)
+    requires ready { ElseReady (program_of walk.now) (mode_of walk.now) depth gives sym.old (else_of no.now) }
+    ensures { IfOk result (λ r. ElseDoes (program_of walk.now) (mode_of walk.now) depth gives (else_of no.now)
         sym.old sym.new) }
 {
     match no {
@@ -306,9 +306,9 @@ fn choose(
     no: &Option<Box<Stmt>>,
 ) -> Result<(), OutOfMemory>
     requires walk { IsWalk walk.now }
-    requires ready { FormReady (program_of walk.now) (invariants_of walk.now) depth gives at sym.old
+    requires ready { FormReady (program_of walk.now) (mode_of walk.now) depth gives at sym.old
         (t.If (expr_view test.now) (stmt_view yes.now) (else_of no.now)) }
-    ensures { IfOk result (λ r. FormDoes (program_of walk.now) (invariants_of walk.now) depth gives at
+    ensures { IfOk result (λ r. FormDoes (program_of walk.now) (mode_of walk.now) depth gives at
         (t.If (expr_view test.now) (stmt_view yes.now) (else_of no.now)) sym.old sym.new) }
 {
     let bit = decided(walk, sym, depth, at, test)?;

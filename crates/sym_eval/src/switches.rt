@@ -4,7 +4,7 @@ ghost use Rattle.std.specs.Prelude.{IfOk};
 ghost use Rattle.c_core.specs.Tree as t;
 ghost use Rattle.c_core.specs.Typing.{labels_in};
 ghost use Rattle.c_core.specs.View.{expr_view, stmts_view, switch_view};
-ghost use Rattle.sym_invariants.specs.Walking.{program_of, invariants_of, IsWalk};
+ghost use Rattle.sym_invariants.specs.Walking.{program_of, mode_of, IsWalk};
 ghost use Rattle.sym_eval.specs.Doing.{FormReady, FormDoes};
 ghost use Rattle.sym_eval.specs.Switching.{ChoiceReady, Chooses, ArmReady, ArmDoes, ArmsReady, ArmsDo};
 
@@ -32,9 +32,9 @@ fn chosen(
     arms: &[Arm],
 ) -> Result<Vec<Bit>, OutOfMemory>
     requires walk { IsWalk walk.now }
-    requires ready { ChoiceReady (program_of walk.now) (invariants_of walk.now) depth sym.old (expr_view test.now)
+    requires ready { ChoiceReady (program_of walk.now) (mode_of walk.now) depth sym.old (expr_view test.now)
         (labels_in (switch_view arms.now)) }
-    ensures { IfOk result (λ r. Chooses (program_of walk.now) (invariants_of walk.now) depth at (expr_view test.now)
+    ensures { IfOk result (λ r. Chooses (program_of walk.now) (mode_of walk.now) depth at (expr_view test.now)
         (labels_in (switch_view arms.now)) sym.old sym.new r.items) }
 {
     let x = full(walk, sym, depth, at, true, test)?;
@@ -58,9 +58,9 @@ fn one_arm(
     body: &[Stmt],
 ) -> Result<(), OutOfMemory>
     requires walk { IsWalk walk.now }
-    requires ready { ArmReady (program_of walk.now) (invariants_of walk.now) depth gives sym.old bit
+    requires ready { ArmReady (program_of walk.now) (mode_of walk.now) depth gives sym.old bit
         (stmts_view body.now) }
-    ensures { IfOk result (λ r. ArmDoes (program_of walk.now) (invariants_of walk.now) depth gives bit
+    ensures { IfOk result (λ r. ArmDoes (program_of walk.now) (mode_of walk.now) depth gives bit
         (stmts_view body.now) sym.old sym.new) }
 {
     let before = sym.live;
@@ -90,8 +90,8 @@ fn walk_arms(
     arms: &[Arm],
 ) -> Result<(), OutOfMemory>
     requires walk { IsWalk walk.now }
-    requires ready { ArmsReady (program_of walk.now) (invariants_of walk.now) depth gives sym.old bits.now arms.now }
-    ensures { IfOk result (λ r. ArmsDo (program_of walk.now) (invariants_of walk.now) depth gives bits.now arms.now
+    requires ready { ArmsReady (program_of walk.now) (mode_of walk.now) depth gives sym.old bits.now arms.now }
+    ensures { IfOk result (λ r. ArmsDo (program_of walk.now) (mode_of walk.now) depth gives bits.now arms.now
         sym.old sym.new) }
 {
     for (index, arm) in arms.iter().enumerate() {
@@ -113,9 +113,9 @@ pub fn switch(
     arms: &[Arm],
 ) -> Result<(), OutOfMemory>
     requires walk { IsWalk walk.now }
-    requires ready { FormReady (program_of walk.now) (invariants_of walk.now) depth gives at sym.old
+    requires ready { FormReady (program_of walk.now) (mode_of walk.now) depth gives at sym.old
         (t.Switch (expr_view test.now) (switch_view arms.now)) }
-    ensures { IfOk result (λ r. FormDoes (program_of walk.now) (invariants_of walk.now) depth gives at
+    ensures { IfOk result (λ r. FormDoes (program_of walk.now) (mode_of walk.now) depth gives at
         (t.Switch (expr_view test.now) (switch_view arms.now)) sym.old sym.new) }
 {
     let bits = chosen(walk, sym, depth, at, test, arms)?;

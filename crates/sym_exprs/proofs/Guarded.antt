@@ -5,7 +5,8 @@ use Rattle.c_core.specs.Tree.{Program}
 use Rattle.c_core.specs.declared.number.DataModel.{DataModel}
 use Rattle.c_meaning.specs.declared.run.Duty.{Duty}
 use Rattle.c_meaning.specs.Acts.{Res, Go}
-use Rattle.c_meaning.specs.Havoc.{Stopped, Left}
+use Rattle.c_meaning.specs.Havoc.{Stopped}
+use Rattle.sym_meaning.specs.Mode.{JudgedState}
 use Rattle.circuits.specs.declared.net.Bit.{Bit}
 use Rattle.circuits.specs.declared.net.NetNode.{NetNode}
 use Rattle.circuits.specs.Net.{holds, Grown, Means, IsIn, opposite}
@@ -54,7 +55,7 @@ module _ {t : Bool} {a b c f : Stand} (x : Guarded t a b c f) where
   }
 
 module _ (m : DataModel) (ds : List Duty) {A : Type 0} (S : A → Type 0) (d : A) where
-  guarded_does : (t : Bool) {a b c f : Stand} (x : Guarded t a b c f) (D : Left → Res Stopped Left A)
+  guarded_does : (t : Bool) {a b c f : Stand} (x : Guarded t a b c f) (D : JudgedState → Res Stopped JudgedState A)
       → (IsHere (length ds) b → (vs rest : List ℤ) → Taken m x.moves.more vs rest → Came ds S c rest (D (left_of b vs)))
       → IsHere (length ds) a → (vs rest : List ℤ) → Taken m x.moves.more vs rest → Came ds (λ z. t ≡ true → S z) f rest (cond t (D (left_of a vs)) (Go d (left_of a vs)))
   guarded_does true {a} {b} {c} {f} x D does here vs rest k =

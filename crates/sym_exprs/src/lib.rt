@@ -1,5 +1,5 @@
 //! The forms of expressions over symbolic states. Its one promise, for each form: where the calls for its parts keep
-//! theirs, each run that is here goes on, fails or ends as the definition of havoc runs says, and the value is the bits'
+//! theirs, each run that is here goes on, fails or ends as the definition of judged runs says, and the value is the bits'
 //! number, at no more and-nodes than the expression weighs.
 #![tactic(auto)]
 

@@ -4,7 +4,8 @@ use Rattle.c_core.specs.Tree.{Program}
 use Rattle.c_core.specs.declared.number.IntType.{IntType}
 use Rattle.c_meaning.specs.declared.run.Duty.{Duty}
 use Rattle.c_meaning.specs.Acts.{Res, Flow}
-use Rattle.c_meaning.specs.Havoc.{Stopped, Left}
+use Rattle.c_meaning.specs.Havoc.{Stopped}
+use Rattle.sym_meaning.specs.Mode.{JudgedState}
 use Rattle.sym_state.specs.declared.state.Sym.{Sym}
 use Rattle.sym_state.specs.Standing.{Stand, stand, IsState, Kept, IsHere}
 use Rattle.sym_state.specs.Following.{left_of, Deed}
@@ -24,12 +25,12 @@ pub same_became : (p : Program) (a : Sym) → IsState p a → Became p 0 a a (λ
 same_became p a h = record { fits = h; added = unchanged 0 a.net; result = refl; is = λ v. refl }
 
 module _ (p : Program) (ds : List Duty) (result : Option IntType) where
-  pub around_runs : {g i j k : ℕ} {a b c d : Sym} {m : Deed Flow} (n : ℕ) (before after : (ℕ → Bool) → Stand → Stand) (next : (ℕ → Bool) → Left → Res Stopped Left Flow → Res Stopped Left Flow)
+  pub around_runs : {g i j k : ℕ} {a b c d : Sym} {m : Deed Flow} (n : ℕ) (before after : (ℕ → Bool) → Stand → Stand) (next : (ℕ → Bool) → JudgedState → Res Stopped JudgedState Flow → Res Stopped JudgedState Flow)
       → Frames before after → Became p g a b before → Runs ds p result i j b c m → Became p k c d after
       → ((v : ℕ → Bool) → (stand p v a).live ≡ false → Kept (before v (stand p v a)) (stand p v c) → Kept (stand p v a) (after v (stand p v c)))
       → ((v : ℕ → Bool) → IsHere (length ds) (stand p v a) → before v (stand p v a) ≡ stand p v a)
       → length a.cells.items ≤ length d.cells.items
-      → ((v : ℕ → Bool) → IsHere (length ds) (stand p v a) → (vs rest : List ℤ) (r : Res Stopped Left Flow) → Went ds result (length a.cells.items) (stand p v c) rest r
+      → ((v : ℕ → Bool) → IsHere (length ds) (stand p v a) → (vs rest : List ℤ) (r : Res Stopped JudgedState Flow) → Went ds result (length a.cells.items) (stand p v c) rest r
       → Went ds result (length a.cells.items) (after v (stand p v c)) rest (next v (left_of (stand p v a) vs) r))
       → g + (i + k) ≤ n → Runs ds p result n j a d (λ v s. next v s (m v s))
   around_runs {g} {i} {j} {k} {a} {b} {c} {d} {m} n before after next fr x y z dead here grown went le = record {

@@ -46,6 +46,7 @@ pub record Changed (p : Program) (s : Sym) (net : List NetNode) (live broken aga
   pub cells_are : (v : ℕ → Bool) → map (cell_at p v net) cells ≡ (f v (stand p v s)).cells
   pub failing : (v : ℕ → Bool) → (f v (stand p v s)).failing ≡ (stand p v s).failing
   pub draws : (v : ℕ → Bool) → (f v (stand p v s)).draws ≡ (stand p v s).draws
+  pub completed : (v : ℕ → Bool) → (f v (stand p v s)).completed ≡ (stand p v s).completed
 
 module _ (p : Program) where
   pub became : {k : ℕ} (s : Sym) (net : List NetNode) (live broken again gave : Bit) (given : Bits) (cells : Vec SymCell Global) (f : (ℕ → Bool) → Stand → Stand) → IsState p s → Grown k s.net net
@@ -53,14 +54,15 @@ module _ (p : Program) where
   became s net live broken again gave given cells f h g c =
       let w = state_grown p g h in
       record {
-        fits = record { live = c.live_is.inside; broken = c.broken_is.inside; again = c.again_is.inside; gave = c.gave_is.inside; given = c.given_in; failing = w.failing; cells = c.cells_in; sites = w.sites };
+        fits = record { live = c.live_is.inside; broken = c.broken_is.inside; again = c.again_is.inside; gave = c.gave_is.inside; given = c.given_in; failing = w.failing; completed = w.completed; cells = c.cells_in; sites = w.sites };
         added = added_of g;
         result = refl;
         is = λ v.
             let q = stand_grown p v g h in
             let failing = ap (λ z. z.failing) q ∙ sym (c.failing v) in
             let draws = ap (λ z. z.draws) q ∙ sym (c.draws v) in
-            λ i. record { live = c.live_is.is v i; broken = c.broken_is.is v i; again = c.again_is.is v i; gave = c.gave_is.is v i; given = c.given_is v i; failing = failing i; cells = c.cells_are v i; draws = draws i };
+            let completed = ap (λ z. z.completed) q ∙ sym (c.completed v) in
+            λ i. record { live = c.live_is.is v i; broken = c.broken_is.is v i; again = c.again_is.is v i; gave = c.gave_is.is v i; given = c.given_is v i; failing = failing i; completed = completed i; cells = c.cells_are v i; draws = draws i };
       }
 
   pub became_then : {i k : ℕ} {a b c : Sym} {f g : (ℕ → Bool) → Stand → Stand} (n : ℕ) → Became p i a b f → Became p k b c g → i + k ≤ n → Became p n a c (λ v s. g v (f v s))
@@ -85,19 +87,19 @@ module _ (p : Program) where
       → Became p 1 s (record s { net = net; broken = out; live = dead }) (λ v. leaving)
   leaving_became s net out dead h g m n =
       became s net dead out s.again s.gave s.given s.cells (λ v. leaving) h g
-      (record { live_is = n; broken_is = m; again_is = still s net h g s.again h.again; gave_is = still s net h g s.gave h.gave; given_in = (state_grown p g h).given; given_is = still_given s net h g; cells_in = (state_grown p g h).cells; cells_are = still_cells s net h g; failing = λ v. refl; draws = λ v. refl })
+      (record { live_is = n; broken_is = m; again_is = still s net h g s.again h.again; gave_is = still s net h g s.gave h.gave; given_in = (state_grown p g h).given; given_is = still_given s net h g; cells_in = (state_grown p g h).cells; cells_are = still_cells s net h g; failing = λ v. refl; draws = λ v. refl; completed = λ v. refl })
 
   pub again_became : (s : Sym) (net : List NetNode) (on dead : Bit) → IsState p s → Grown 1 s.net net → Means net on (λ v. holds v s.net s.again || holds v s.net s.live) → Means net dead (λ v. false)
       → Became p 1 s (record s { net = net; again = on; live = dead }) (λ v. going_again)
   again_became s net on dead h g m n =
       became s net dead s.broken on s.gave s.given s.cells (λ v. going_again) h g
-      (record { live_is = n; broken_is = still s net h g s.broken h.broken; again_is = m; gave_is = still s net h g s.gave h.gave; given_in = (state_grown p g h).given; given_is = still_given s net h g; cells_in = (state_grown p g h).cells; cells_are = still_cells s net h g; failing = λ v. refl; draws = λ v. refl })
+      (record { live_is = n; broken_is = still s net h g s.broken h.broken; again_is = m; gave_is = still s net h g s.gave h.gave; given_in = (state_grown p g h).given; given_is = still_given s net h g; cells_in = (state_grown p g h).cells; cells_are = still_cells s net h g; failing = λ v. refl; draws = λ v. refl; completed = λ v. refl })
 
   pub back_became : (s : Sym) (net : List NetNode) (back dead : Bit) → IsState p s → Grown 1 s.net net → Means net back (λ v. holds v s.net s.gave || holds v s.net s.live) → Means net dead (λ v. false)
       → Became p 1 s (record s { net = net; gave = back; live = dead }) (λ v. going_back)
   back_became s net back dead h g m n =
       became s net dead s.broken s.again back s.given s.cells (λ v. going_back) h g
-      (record { live_is = n; broken_is = still s net h g s.broken h.broken; again_is = still s net h g s.again h.again; gave_is = m; given_in = (state_grown p g h).given; given_is = still_given s net h g; cells_in = (state_grown p g h).cells; cells_are = still_cells s net h g; failing = λ v. refl; draws = λ v. refl })
+      (record { live_is = n; broken_is = still s net h g s.broken h.broken; again_is = still s net h g s.again h.again; gave_is = m; given_in = (state_grown p g h).given; given_is = still_given s net h g; cells_in = (state_grown p g h).cells; cells_are = still_cells s net h g; failing = λ v. refl; draws = λ v. refl; completed = λ v. refl })
 
   either_read : (w : ℕ) (s t : Bool) (x y : ℕ) → read w s (cond t x y) ≡ cond t (read w s x) (read w s y)
   either_read w s true x y = refl
@@ -121,7 +123,7 @@ module _ (p : Program) where
         cells_in = (state_grown p g h).cells;
         cells_are = still_cells s net h g;
         failing = λ v. refl;
-        draws = λ v. refl;
+        draws = λ v. refl; completed = λ v. refl;
       })
 
   pub giving_became : (s n : Sym) (net : List NetNode) (ty : IntType) (value : List Bit) (given : Bits) → IsState p s → s.result ≡ ty → AreTyped p.model ty s.net value → Grown (4 * length value) s.net net
@@ -152,29 +154,29 @@ module _ (p : Program) where
   cut_became s n cells h e =
       let g = grown_not 0 s.net in
       became s s.net s.live s.broken s.again s.gave s.given cells (λ v. cut_to n) h g
-      (record { live_is = own s.net s.live h.live; broken_is = own s.net s.broken h.broken; again_is = own s.net s.again h.again; gave_is = own s.net s.gave h.gave; given_in = h.given; given_is = λ v. refl; cells_in = front_in s s.net h g n cells e; cells_are = front_are s s.net h g n cells e; failing = λ v. refl; draws = λ v. refl })
+      (record { live_is = own s.net s.live h.live; broken_is = own s.net s.broken h.broken; again_is = own s.net s.again h.again; gave_is = own s.net s.gave h.gave; given_in = h.given; given_is = λ v. refl; cells_in = front_in s s.net h g n cells e; cells_are = front_are s s.net h g n cells e; failing = λ v. refl; draws = λ v. refl; completed = λ v. refl })
 
   pub fresh_again_became : (s : Sym) (dead : Bit) → IsState p s → Means s.net dead (λ v. false) → Became p 0 s (record s { again = dead }) (λ v. fresh_again)
   fresh_again_became s dead h m =
       became s s.net s.live s.broken dead s.gave s.given s.cells (λ v. fresh_again) h (grown_not 0 s.net)
-      (record { live_is = own s.net s.live h.live; broken_is = own s.net s.broken h.broken; again_is = m; gave_is = own s.net s.gave h.gave; given_in = h.given; given_is = λ v. refl; cells_in = h.cells; cells_are = λ v. refl; failing = λ v. refl; draws = λ v. refl })
+      (record { live_is = own s.net s.live h.live; broken_is = own s.net s.broken h.broken; again_is = m; gave_is = own s.net s.gave h.gave; given_in = h.given; given_is = λ v. refl; cells_in = h.cells; cells_are = λ v. refl; failing = λ v. refl; draws = λ v. refl; completed = λ v. refl })
 
   pub fresh_broken_became : (s : Sym) (dead : Bit) → IsState p s → Means s.net dead (λ v. false) → Became p 0 s (record s { broken = dead }) (λ v. fresh_broken)
   fresh_broken_became s dead h m =
       became s s.net s.live dead s.again s.gave s.given s.cells (λ v. fresh_broken) h (grown_not 0 s.net)
-      (record { live_is = own s.net s.live h.live; broken_is = m; again_is = own s.net s.again h.again; gave_is = own s.net s.gave h.gave; given_in = h.given; given_is = λ v. refl; cells_in = h.cells; cells_are = λ v. refl; failing = λ v. refl; draws = λ v. refl })
+      (record { live_is = own s.net s.live h.live; broken_is = m; again_is = own s.net s.again h.again; gave_is = own s.net s.gave h.gave; given_in = h.given; given_is = λ v. refl; cells_in = h.cells; cells_are = λ v. refl; failing = λ v. refl; draws = λ v. refl; completed = λ v. refl })
 
   pub body_became : (s : Sym) (net : List NetNode) (here kept : Bit) (n : ℕ) (cells : Vec SymCell Global) → IsState p s → IsIn s.net kept → Grown 1 s.net net → Means net here (λ v. holds v s.net s.live || holds v s.net s.again)
       → cells.items ≡ take n s.cells.items → Became p 1 s (record s { net = net; live = here; again = kept; cells = cells }) (λ v. behind_body (holds v s.net kept) n)
   body_became s net here kept n cells h ik g m e =
       became s net here s.broken kept s.gave s.given cells (λ v. behind_body (holds v s.net kept) n) h g
-      (record { live_is = m; broken_is = still s net h g s.broken h.broken; again_is = still s net h g kept ik; gave_is = still s net h g s.gave h.gave; given_in = (state_grown p g h).given; given_is = still_given s net h g; cells_in = front_in s net h g n cells e; cells_are = front_are s net h g n cells e; failing = λ v. refl; draws = λ v. refl })
+      (record { live_is = m; broken_is = still s net h g s.broken h.broken; again_is = still s net h g kept ik; gave_is = still s net h g s.gave h.gave; given_in = (state_grown p g h).given; given_is = still_given s net h g; cells_in = front_in s net h g n cells e; cells_are = front_are s net h g n cells e; failing = λ v. refl; draws = λ v. refl; completed = λ v. refl })
 
   pub loop_became : (s : Sym) (net : List NetNode) (here kept : Bit) (n : ℕ) (cells : Vec SymCell Global) → IsState p s → IsIn s.net kept → Grown 1 s.net net → Means net here (λ v. holds v s.net s.live || holds v s.net s.broken)
       → cells.items ≡ take n s.cells.items → Became p 1 s (record s { net = net; live = here; broken = kept; cells = cells }) (λ v. behind_loop (holds v s.net kept) n)
   loop_became s net here kept n cells h ik g m e =
       became s net here kept s.again s.gave s.given cells (λ v. behind_loop (holds v s.net kept) n) h g
-      (record { live_is = m; broken_is = still s net h g kept ik; again_is = still s net h g s.again h.again; gave_is = still s net h g s.gave h.gave; given_in = (state_grown p g h).given; given_is = still_given s net h g; cells_in = front_in s net h g n cells e; cells_are = front_are s net h g n cells e; failing = λ v. refl; draws = λ v. refl })
+      (record { live_is = m; broken_is = still s net h g kept ik; again_is = still s net h g s.again h.again; gave_is = still s net h g s.gave h.gave; given_in = (state_grown p g h).given; given_is = still_given s net h g; cells_in = front_in s net h g n cells e; cells_are = front_are s net h g n cells e; failing = λ v. refl; draws = λ v. refl; completed = λ v. refl })
 
   -- the bit that was kept keeps its value while the part inside is done
   pub kept_body : {i j k : ℕ} {a c d : Sym} (kept : Bit) (n : ℕ) → IsState p a → kept ≡ a.again → Added i j a.net c.net → Became p k c d (λ v. behind_body (holds v c.net kept) n) → Became p k c d (λ v. behind_body (stand p v a).again n)

@@ -5,7 +5,8 @@ use Rattle.c_core.specs.declared.number.IntType.{IntType}
 use Rattle.c_core.specs.declared.number.DataModel.{DataModel}
 use Rattle.c_meaning.specs.declared.run.Duty.{Duty}
 use Rattle.c_meaning.specs.Acts.{Res, Flow}
-use Rattle.c_meaning.specs.Havoc.{Stopped, Left}
+use Rattle.c_meaning.specs.Havoc.{Stopped}
+use Rattle.sym_meaning.specs.Mode.{JudgedState}
 use Rattle.circuits.specs.declared.net.Bit.{Bit}
 use Rattle.circuits.specs.Net.{holds, IsIn, opposite}
 use Rattle.circuits.proofs.Nets.{holds-opposite}
@@ -65,7 +66,7 @@ here_again : (a : Stand) → record a { live = a.live && true } ≡ a
 here_again a = λ i. record a { live = and_yes a.live i }
 
 module _ (m : DataModel) (ds : List Duty) (result : Option IntType) (n : ℕ) where
-  pub arms_do : (t : Bool) {a b c d e f : Stand} (x : Arms t a b c d e f) (A B : Left → Res Stopped Left Flow)
+  pub arms_do : (t : Bool) {a b c d e f : Stand} (x : Arms t a b c d e f) (A B : JudgedState → Res Stopped JudgedState Flow)
       → (IsHere (length ds) b → (vs rest : List ℤ) → Taken m x.one.more vs rest → Went ds result n c rest (A (left_of b vs)))
       → (IsHere (length ds) d → (vs rest : List ℤ) → Taken m x.two.more vs rest → Went ds result n e rest (B (left_of d vs)))
       → IsHere (length ds) a → (vs rest : List ℤ) → Taken m (x.one.more ++ x.two.more) vs rest → Went ds result n f rest (cond t (A (left_of a vs)) (B (left_of a vs)))
@@ -86,7 +87,7 @@ module _ (m : DataModel) (ds : List Duty) (result : Option IntType) (n : ℕ) wh
       subst (λ z. Went ds result n z rest (B (left_of a vs))) (sym fe)
       (subst (λ z. Went ds result n e rest (B (left_of z vs))) ed (db (subst (IsHere (length ds)) (sym ed) here) vs rest u))
 
-at_once : {A : Type 0} (t : Bool) (f g : Left → A) (s : Left) → (cond t f g) s ≡ cond t (f s) (g s)
+at_once : {A : Type 0} (t : Bool) (f g : JudgedState → A) (s : JudgedState) → (cond t f g) s ≡ cond t (f s) (g s)
 at_once true f g s = refl
 at_once false f g s = refl
 

@@ -10,17 +10,18 @@ use Rattle.c_core.specs.Types.{fit}
 use Rattle.c_core.specs.declared.number.IntType.{IntType}
 use Rattle.c_core.specs.declared.number.Spot.{Spot}
 use Rattle.c_meaning.specs.declared.run.Duty.{Duty}
-use Rattle.c_meaning.specs.Acts.{Res, Go, Flow, bind, go_on, write}
+use Rattle.c_meaning.specs.Acts.{Go, bind, go_on, write}
 use Rattle.c_meaning.specs.Acts as acts
 use Rattle.c_meaning.specs.Cells.{cells_from}
-use Rattle.c_meaning.specs.Duties.{Placed}
 use Rattle.c_meaning.specs.Exec.{ticks, full, initial, initials, declare, with_params}
-use Rattle.c_meaning.specs.Havoc.{Stopped, Left, cells_left, with_cells_left, havoc}
+use Rattle.c_meaning.specs.Havoc.{Stopped}
+use Rattle.sym_meaning.specs.Mode.{Mode, Turn, JudgedState, cells_judged, with_cells_judged}
+use Rattle.sym_meaning.specs.Judged.{judged}
 use Rattle.c_meaning.specs.Meaning.{Tick, ACell, Used, Calls}
 use Rattle.c_meaning.specs.Objects.{type_of_object, size_of_object}
-use Rattle.run_state.proofs.Taking.{appended}
 use Rattle.circuits.specs.Numbers.{typed, Reads}
 use Rattle.circuits.proofs.Nets.{grown_not, own}
+use Rattle.run_state.proofs.Taking.{appended}
 use Rattle.sym_state.specs.declared.state.Sym.{Sym}
 use Rattle.sym_state.specs.declared.state.SymCell.{SymCell}
 use Rattle.sym_state.specs.Places.{key}
@@ -62,7 +63,7 @@ module _ (p : Program) where
             let new : cell_at p v s.net c ≡ record { key = record { object = o; index = i }; value = z } =
             λ j. record { key = record { object = eo j; index = ei j }; value = (ap (λ t. typed p.model t v s.net c.bits.bits) (sym own_ty) ∙ r.is v) j } in
             ap (map (cell_at p v s.net)) e ∙ map_snoc (cell_at p v s.net) s.cells.items c ∙ ap (λ z. map (cell_at p v s.net) s.cells.items ++ z ∷ []) new;
-        failing = λ v. refl;
+        failing = λ v. refl; completed = λ v. refl;
         draws = λ v. refl;
       })
 
@@ -80,43 +81,43 @@ module _ (p : Program) where
       λ i. record (stand p v a) { cells = e i })
 
 module _ (p : Program) (ds : List Duty) (result : Option IntType) where
-  pub declare_runs : {a b : Sym} (o n : ℕ) → Became p 0 a b (λ v. declaring o n) → Runs ds p result 0 0 a b (λ v. acts.declare Stopped Left cells_left with_cells_left o n)
+  pub declare_runs : {a b : Sym} (o n : ℕ) → Became p 0 a b (λ v. declaring o n) → Runs ds p result 0 0 a b (λ v. acts.declare Stopped JudgedState cells_judged with_cells_judged o n)
   declare_runs {a = a} {b = b} o n x =
       let v0 : ℕ → Bool = λ k. false in
       became_runs p ds result (λ v. declaring o n) x (omega (arith, became_count {a = a} {b = b} p (λ v. declaring o n) x v0, length-append (stand p v0 a).cells (cells_from o 0 n []), count_cells p v0 a)) (λ v. refl)
-      (λ v d. record { live = refl; broken = refl; again = refl; gave = refl; given = refl; failing = refl; draws = refl; junk = cells_from o 0 n []; cells = refl })
+      (λ v d. record { live = refl; broken = refl; again = refl; gave = refl; given = refl; failing = refl; completed = refl; draws = refl; junk = cells_from o 0 n []; cells = refl })
       (λ v here rest. (record { live = here.live; broken = here.broken; again = here.again; gave = here.gave; failing = here.failing }, refl))
 
-module _ (p : Program) (I : List Placed) where
-  -- no havoc run counts steps
-  pub no_ticks : (t : Tick) (n : ℕ) (s : Left) → ticks p (havoc p I) t n s ≡ Go tt s
+module _ (p : Program) (W : Mode) where
+  -- no judged run counts steps
+  pub no_ticks : (t : Tick) (n : ℕ) (s : JudgedState) → ticks p (judged p W) t n s ≡ Go tt s
   no_ticks t zero s = refl
   no_ticks t (suc n) s = no_ticks t n s
 
-  module _ (ds : List Duty) (result : Option IntType) (call : Calls (havoc p I)) where
+  module _ (ds : List Duty) (result : Option IntType) (call : Calls (judged p W)) (may : Bool) where
     -- C11 6.7p1: an object's cells, what its initializer or its draws make of them, and the other names
     pub names_run : {i j k l : ℕ} {a b c d : Sym} (n m : ℕ) (at spot : Spot) (o : ℕ) (x : Init) (ns : Names) → Became p 0 a b (λ v. declaring o (size_of_object p o))
-        → Follows ds p i j b c (λ v u. Unit {0}) (λ v. initial p (havoc p I) call at spot o x) → Runs ds p result k l c d (λ v. declare p (havoc p I) call at ns) → i + k ≤ n → j + l ≤ m
-        → Runs ds p result n m a d (λ v. declare p (havoc p I) call at (MoreName spot o x ns))
+        → Follows ds p i j b c (λ v u. Unit {0}) (λ v. initial p (judged p W) call at spot o x) → Runs ds p result k l c d (λ v. declare p (judged p W) call at ns may) → i + k ≤ n → j + l ≤ m
+        → Runs ds p result n m a d (λ v. declare p (judged p W) call at (MoreName spot o x ns) may)
     names_run {i} {j} {k} {l} n m at spot o x ns y f r h q =
-        let rest = follows_runs p ds result (i + k) (j + l) (λ v u. declare p (havoc p I) call at ns) f r (λ v u w s. refl) (omega arith) (omega arith) in
+        let rest = follows_runs p ds result (i + k) (j + l) (λ v u. declare p (judged p W) call at ns may) f r (λ v u w s. refl) (omega arith) (omega arith) in
         runs_as p ds result (runs_then p ds result n m (declare_runs p ds result o (size_of_object p o) y) rest (omega (arith, h)) (omega (arith, q)))
-        (λ v s. ap (λ z. bind z (λ u s. bind (acts.declare Stopped Left cells_left with_cells_left o (size_of_object p o) s) (go_on (λ s. bind (initial p (havoc p I) call at spot o x s) (λ u. declare p (havoc p I) call at ns))))) (sym (no_ticks ACell (size_of_object p o) s)))
+        (λ v s. ap (λ z. bind z (λ u s. bind (acts.declare Stopped JudgedState cells_judged with_cells_judged o (size_of_object p o) s) (go_on (λ s. bind (initial p (judged p W) call at spot o x s) (λ u. declare p (judged p W) call at ns may))))) (sym (no_ticks ACell (size_of_object p o) s)))
         (omega arith) (omega arith)
 
     -- C11 6.7.9p11: one value of an initializer, and the others
     pub initials_next : {S : (ℕ → Bool) → ℤ → Type 0} {i1 i2 i3 j1 j2 j3 : ℕ} {a b c d : Sym} (n m : ℕ) (at : Spot) (o i : ℕ) (e : Exp) (es : Exps) (w : (ℕ → Bool) → ℤ)
-        → Follows ds p i1 j1 a b S (λ v. full p (havoc p I) call at Used e) → ((v : ℕ → Bool) (z : ℤ) → S v z → fit p.model (type_of_object p o) z ≡ w v)
-        → Follows ds p i2 j2 b c (λ v u. Unit {0}) (λ v. write Stopped Left cells_left with_cells_left (key o i) (w v)) → Follows ds p i3 j3 c d (λ v u. Unit {0}) (λ v. initials p (havoc p I) call at o (suc i) es)
-        → i1 + (i2 + i3) ≤ n → j1 + (j2 + j3) ≤ m → Follows ds p n m a d (λ v u. Unit {0}) (λ v. initials p (havoc p I) call at o i (MoreExp e es))
+        → Follows ds p i1 j1 a b S (λ v. full p (judged p W) call at Used e) → ((v : ℕ → Bool) (z : ℤ) → S v z → fit p.model (type_of_object p o) z ≡ w v)
+        → Follows ds p i2 j2 b c (λ v u. Unit {0}) (λ v. write Stopped JudgedState cells_judged with_cells_judged (key o i) (w v)) → Follows ds p i3 j3 c d (λ v u. Unit {0}) (λ v. initials p (judged p W) call at o (suc i) es)
+        → i1 + (i2 + i3) ≤ n → j1 + (j2 + j3) ≤ m → Follows ds p n m a d (λ v u. Unit {0}) (λ v. initials p (judged p W) call at o i (MoreExp e es))
     initials_next {i2 = i2} {i3 = i3} {j2 = j2} {j3 = j3} n m at o i e es w x fits y z h q =
-        let rest = follows_then p ds (i2 + i3) (j2 + j3) (λ v u. initials p (havoc p I) call at o (suc i) es) y z (λ v u t s. refl) (omega arith) (omega arith) in
-        follows_then p ds n m (λ v z s. bind (write Stopped Left cells_left with_cells_left (key o i) (fit p.model (type_of_object p o) z) s) (λ u. initials p (havoc p I) call at o (suc i) es)) x rest
-        (λ v z t s. ap (λ w. bind (write Stopped Left cells_left with_cells_left (key o i) w s) (λ u. initials p (havoc p I) call at o (suc i) es)) (fits v z t)) h q
+        let rest = follows_then p ds (i2 + i3) (j2 + j3) (λ v u. initials p (judged p W) call at o (suc i) es) y z (λ v u t s. refl) (omega arith) (omega arith) in
+        follows_then p ds n m (λ v z s. bind (write Stopped JudgedState cells_judged with_cells_judged (key o i) (fit p.model (type_of_object p o) z) s) (λ u. initials p (judged p W) call at o (suc i) es)) x rest
+        (λ v z t s. ap (λ w. bind (write Stopped JudgedState cells_judged with_cells_judged (key o i) w s) (λ u. initials p (judged p W) call at o (suc i) es)) (fits v z t)) h q
 
   -- ---- parameters (C11 6.5.2.2p4, p7)
-  module _ (ds : List Duty) (result : Option IntType) where
+  module _ (ds : List Duty) (result : Option IntType) (may : Bool) where
     -- without one it is 0
-    pub params_lack : {k l : ℕ} {a b d : Sym} (o : ℕ) (os : List ℕ) (body : Left → Res Stopped Left Flow) → Became p 0 a b (λ v. declaring o 1) → Runs ds p result k l b d (λ v. with_params p (havoc p I) os [] body)
-        → Runs ds p result k l a d (λ v. with_params p (havoc p I) (o ∷ os) [] body)
+    pub params_lack : {k l : ℕ} {a b d : Sym} (o : ℕ) (os : List ℕ) (body : Turn) → Became p 0 a b (λ v. declaring o 1) → Runs ds p result k l b d (λ v. with_params p (judged p W) os [] body may)
+        → Runs ds p result k l a d (λ v. with_params p (judged p W) (o ∷ os) [] body may)
     params_lack {k} {l} o os body y r = runs_then p ds result k l (declare_runs p ds result o 1 y) r (omega arith) (omega arith)

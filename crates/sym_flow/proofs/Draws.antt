@@ -15,7 +15,10 @@ use Rattle.c_meaning.specs.Acts.{Res, Go, Stop, bind, write}
 use Rattle.c_meaning.specs.Cells.{Key, put}
 use Rattle.c_meaning.specs.Duties.{Placed}
 use Rattle.c_meaning.specs.Exec as exec
-use Rattle.c_meaning.specs.Havoc.{Stopped, Left, cells_left, with_cells_left, draw, redraw_cells, redraw, havoc}
+use Rattle.c_meaning.specs.Havoc.{Stopped}
+use Rattle.sym_meaning.specs.Mode.{JudgedState, cells_judged, with_cells_judged, Mode}
+use Rattle.sym_meaning.specs.Judged.{draw, judged}
+use Rattle.sym_meaning.specs.Obliging.{redraw_cells, redraw}
 use Rattle.c_meaning.specs.Meaning.{Calls}
 use Rattle.c_meaning.specs.Objects.{type_of_object, size_of_object}
 use Rattle.circuits.specs.declared.net.Bit.{Bit}
@@ -53,7 +56,7 @@ module _ (p : Program) (ds : List Duty) where
 
   -- a draw's bits are its value, from whatever list it is taken
   pub drawn_follows : (from : DrawKind) (spot : Spot) (ty : IntType) (s n : Sym) (bits : List Bit) → IsDrawn p from spot ty s n bits
-      → Follows ds p 0 (width_of p.model ty) s n (λ v z. z ≡ typed p.model ty v n.net bits) (λ v. draw p [] from spot ty)
+      → Follows ds p 0 (width_of p.model ty) s n (λ v z. z ≡ typed p.model ty v n.net bits) (λ v. draw p from spot ty)
   drawn_follows from spot ty s n bits x =
       let d : (ℕ → Bool) → Draw = λ v. draw_of p from spot ty v n.net bits in
       record {
@@ -65,22 +68,22 @@ module _ (p : Program) (ds : List Duty) where
         does = λ v here vs rest t.
             let a = stand p v s in
             let u : Taken p.model (d v ∷ []) vs rest = subst (λ l. Taken p.model (cond l (d v ∷ []) []) vs rest) here.live t in
-            subst (λ z. Came ds (λ w. w ≡ (d v).value) z rest (draw p [] from spot ty (left_of a vs))) (sym (x.turned.is v)) (
+            subst (λ z. Came ds (λ w. w ≡ (d v).value) z rest (draw p from spot ty (left_of a vs))) (sym (x.turned.is v)) (
               record { live = here.live; broken = here.broken; again = here.again; gave = here.gave; failing = here.failing },
-              (λ i. record { cells = a.cells; values = u.1 i; draws = (ap (λ q. a.draws ++ record { spot = spot; ty = ty; value = q; from = from } ∷ []) u.0 ∙ ap (λ l. a.draws ++ cond l (d v ∷ []) []) (sym here.live)) i }),
+              (λ i. record { cells = a.cells; completed = a.completed; values = u.1 i; draws = (ap (λ q. a.draws ++ record { spot = spot; ty = ty; value = q; from = from } ∷ []) u.0 ∙ ap (λ l. a.draws ++ cond l (d v ∷ []) []) (sym here.live)) i }),
               u.0,
             );
       }
 
   -- a value is written where a run is here
   pub stored_follows : {i : ℕ} (k : Key) (z : (ℕ → Bool) → ℤ) (s n : Sym) → Turned p i 0 s n (λ v. stored (holds v s.net s.live) k (z v))
-      → Follows ds p i 0 s n (λ v u. Unit {0}) (λ v. write Stopped Left cells_left with_cells_left k (z v))
+      → Follows ds p i 0 s n (λ v u. Unit {0}) (λ v. write Stopped JudgedState cells_judged with_cells_judged k (z v))
   stored_follows k z s n x =
       turned_follows p ds (λ v. stored (holds v s.net s.live) k (z v)) x (λ v. refl) (λ v d. dead_store k (z v) (stand p v s) (holds v s.net s.live) d)
       (λ v here rest.
       let a = stand p v s in (
         record { live = here.live; broken = here.broken; again = here.again; gave = here.gave; failing = here.failing },
-        (λ i. record { cells = cond (sym here.live i) (put k (z v) a.cells) a.cells; values = rest; draws = a.draws }),
+        (λ i. record { cells = cond (sym here.live i) (put k (z v) a.cells) a.cells; values = rest; draws = a.draws; completed = a.completed }),
         tt,
       ))
 
@@ -92,12 +95,12 @@ module _ (p : Program) (ds : List Duty) where
       let x' : IsDrawn p from spot own a b bits = subst (λ t. IsDrawn p from spot t a b bits) e x in
       let y' : Turned p (4 * width_of p.model own) 0 b c (λ v. stored (holds v b.net b.live) (key o j) (typed p.model own v b.net bits)) =
       subst (λ h. Turned p (4 * width_of p.model own) 0 b c (λ v. stored (holds v b.net h) (key o j) (typed p.model own v b.net bits))) l y in
-      follows_then p ds (4 * width_of p.model own) (width_of p.model own) (λ v z. write Stopped Left cells_left with_cells_left (key o j) z) (drawn_follows from spot own a b bits x')
-      (stored_follows (key o j) (λ v. typed p.model own v b.net bits) b c y') (λ v z q s. ap (λ w. write Stopped Left cells_left with_cells_left (key o j) w s) q) (omega arith) (omega arith)
+      follows_then p ds (4 * width_of p.model own) (width_of p.model own) (λ v z. write Stopped JudgedState cells_judged with_cells_judged (key o j) z) (drawn_follows from spot own a b bits x')
+      (stored_follows (key o j) (λ v. typed p.model own v b.net bits) b c y') (λ v z q s. ap (λ w. write Stopped JudgedState cells_judged with_cells_judged (key o j) w s) q) (omega arith) (omega arith)
 
 -- ---- one cell more
 module _ (p : Program) (from : DrawKind) (spot : Spot) (o : ℕ) where
-  pub cells_snoc : (n i : ℕ) (s : Left) → cells_drawn p from spot o i (suc n) s ≡ bind (cells_drawn p from spot o i n s) (λ u. cell_drawn p from spot o (i + n))
+  pub cells_snoc : (n i : ℕ) (s : JudgedState) → cells_drawn p from spot o i (suc n) s ≡ bind (cells_drawn p from spot o i n s) (λ u. cell_drawn p from spot o (i + n))
   cells_snoc zero i s = let e : i + 0 ≡ i = omega arith in rw e refl
   cells_snoc (suc n) i s = let e : suc i + n ≡ i + suc n = omega arith in cells_snoc n (suc i) _ ∙ ap (λ k. bind (cells_drawn p from spot o i (suc n) s) (λ u. cell_drawn p from spot o k)) e
 
@@ -123,25 +126,25 @@ module _ (p : Program) (from : DrawKind) (spot : Spot) (o : ℕ) where
   room_cell n k old new h few room = omega (arith, mul-le-mul_right (width_of p.model (type_of_object p o)) h, few, room)
 
 -- at a loop's head, and where an object is declared
-pub redrawn : (p : Program) (I : List Placed) (spot : Spot) (o n i : ℕ) (s : Left) → cells_drawn p AHavocDraw spot o i n s ≡ redraw_cells p I spot o i n s
+pub redrawn : (p : Program) (I : List Placed) (spot : Spot) (o n i : ℕ) (s : JudgedState) → cells_drawn p AHavocDraw spot o i n s ≡ redraw_cells p I spot o i n s
 redrawn p I spot o zero i s = refl
 redrawn p I spot o (suc n) i s = redrawn p I spot o n (suc i) _
 
-pub declared_drawn : (p : Program) (I : List Placed) (call : Calls (havoc p I)) (spot : Spot) (o n i : ℕ) (s : Left) → cells_drawn p ACellDraw spot o i n s ≡ exec.draw_cells p (havoc p I) call spot o i n s
-declared_drawn p I call spot o zero i s = refl
-declared_drawn p I call spot o (suc n) i s = declared_drawn p I call spot o n (suc i) _
+pub declared_drawn : (p : Program) (W : Mode) (call : Calls (judged p W)) (spot : Spot) (o n i : ℕ) (s : JudgedState) → cells_drawn p ACellDraw spot o i n s ≡ exec.draw_cells p (judged p W) call spot o i n s
+declared_drawn p W call spot o zero i s = refl
+declared_drawn p W call spot o (suc n) i s = declared_drawn p W call spot o n (suc i) _
 
 -- ---- the objects that a loop changes
 module _ (p : Program) where
-  right_unit : (r : Res Stopped Left (Unit {0})) → r ≡ bind r (λ u s. Go tt s)
+  right_unit : (r : Res Stopped JudgedState (Unit {0})) → r ≡ bind r (λ u s. Go tt s)
   right_unit (Go tt s) = refl
   right_unit (Stop e s) = refl
 
-  pub after_both : {A B C : Type 0} (r : Res Stopped Left A) (k : A → Left → Res Stopped Left B) (l : B → Left → Res Stopped Left C) → bind r (λ x s. bind (k x s) l) ≡ bind (bind r k) l
+  pub after_both : {A B C : Type 0} (r : Res Stopped JudgedState A) (k : A → JudgedState → Res Stopped JudgedState B) (l : B → JudgedState → Res Stopped JudgedState C) → bind r (λ x s. bind (k x s) l) ≡ bind (bind r k) l
   after_both (Go x s) k l = refl
   after_both (Stop e s) k l = refl
 
-  pub redraw_snoc : (I : List Placed) (spot : Spot) (os : List ℕ) (o : ℕ) (s : Left) → redraw p I spot (os ++ o ∷ []) s ≡ bind (redraw p I spot os s) (λ u. redraw_cells p I spot o 0 (size_of_object p o))
+  pub redraw_snoc : (I : List Placed) (spot : Spot) (os : List ℕ) (o : ℕ) (s : JudgedState) → redraw p I spot (os ++ o ∷ []) s ≡ bind (redraw p I spot os s) (λ u. redraw_cells p I spot o 0 (size_of_object p o))
   redraw_snoc I spot [] o s = sym (right_unit (redraw_cells p I spot o 0 (size_of_object p o) s))
   redraw_snoc I spot (x ∷ xs) o s =
       ap (bind (redraw_cells p I spot x 0 (size_of_object p x) s)) (λ i u t. redraw_snoc I spot xs o t i)

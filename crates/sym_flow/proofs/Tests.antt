@@ -6,7 +6,9 @@ use Rattle.c_meaning.specs.declared.run.Duty.{Duty}
 use Rattle.c_meaning.specs.declared.run.DutyKind.{DutyKind}
 use Rattle.c_meaning.specs.Acts.{Res, Go, Stop, bind}
 use Rattle.c_meaning.specs.Duties.{Placed, duty, number_among}
-use Rattle.c_meaning.specs.Havoc.{Stopped, Dismisses, Fails, Left, stands, test_from, assume_all}
+use Rattle.c_meaning.specs.Havoc.{Stopped, Dismisses, Fails, stands}
+use Rattle.sym_meaning.specs.Mode.{JudgedState}
+use Rattle.sym_meaning.specs.Obliging.{test_from, assume_all}
 use Rattle.c_meaning.specs.Value as value
 use Rattle.circuits.specs.declared.net.Bit.{Bit}
 use Rattle.circuits.specs.Net.{holds, opposite, Means}
@@ -95,50 +97,50 @@ swapped : {A : Type 0} (t : Bool) (x y : A) → cond (true && not t) x y ≡ con
 swapped true x y = refl
 swapped false x y = refl
 
-over_cond : {A B : Type 0} (t : Bool) (x y : Res Stopped Left A) (k : A → Left → Res Stopped Left B) → bind (cond t x y) k ≡ cond t (bind x k) (bind y k)
+over_cond : {A B : Type 0} (t : Bool) (x y : Res Stopped JudgedState A) (k : A → JudgedState → Res Stopped JudgedState B) → bind (cond t x y) k ≡ cond t (bind x k) (bind y k)
 over_cond true x y k = refl
 over_cond false x y k = refl
 
 module _ (p : Program) (I : List Placed) where
-  pub test_next : (i : ℕ) (x : Placed) (xs : List Placed) (at_loop : Bool) (spot : Spot) (kind : DutyKind) (s : Left) → stands p I at_loop spot x ≡ true
+  pub test_next : (i : ℕ) (x : Placed) (xs : List Placed) (at_loop : Bool) (spot : Spot) (kind : DutyKind) (s : JudgedState) → stands p I at_loop spot x ≡ true
       → bind (invariant_tested p x (Fails (duty spot kind (Some i))) s) (λ u. test_from p I (suc i) xs at_loop spot kind) ≡ test_from p I i (x ∷ xs) at_loop spot kind s
   test_next i x xs at_loop spot kind s h =
       over_cond (value.holds p x.test s.cells) (Go tt s) (Stop (Fails (duty spot kind (Some i))) s) (λ u. test_from p I (suc i) xs at_loop spot kind)
       ∙ sym (swapped (value.holds p x.test s.cells) (Stop (Fails (duty spot kind (Some i))) s) (test_from p I (suc i) xs at_loop spot kind s))
       ∙ ap (λ b. cond (b && not (value.holds p x.test s.cells)) (Stop (Fails (duty spot kind (Some i))) s) (test_from p I (suc i) xs at_loop spot kind s)) (sym h)
 
-  pub test_passed : (i : ℕ) (x : Placed) (xs : List Placed) (at_loop : Bool) (spot : Spot) (kind : DutyKind) (s : Left) → stands p I at_loop spot x ≡ false
+  pub test_passed : (i : ℕ) (x : Placed) (xs : List Placed) (at_loop : Bool) (spot : Spot) (kind : DutyKind) (s : JudgedState) → stands p I at_loop spot x ≡ false
       → test_from p I (suc i) xs at_loop spot kind s ≡ test_from p I i (x ∷ xs) at_loop spot kind s
   test_passed i x xs at_loop spot kind s h = ap (λ b. cond (b && not (value.holds p x.test s.cells)) (Stop (Fails (duty spot kind (Some i))) s) (test_from p I (suc i) xs at_loop spot kind s)) (sym h)
 
-  pub assume_next : (x : Placed) (xs : List Placed) (spot : Spot) (s : Left) → stands p I true spot x ≡ true
+  pub assume_next : (x : Placed) (xs : List Placed) (spot : Spot) (s : JudgedState) → stands p I true spot x ≡ true
       → bind (invariant_tested p x Dismisses s) (λ u. assume_all p I xs spot) ≡ assume_all p I (x ∷ xs) spot s
   assume_next x xs spot s h =
       over_cond (value.holds p x.test s.cells) (Go tt s) (Stop Dismisses s) (λ u. assume_all p I xs spot)
       ∙ sym (swapped (value.holds p x.test s.cells) (Stop Dismisses s) (assume_all p I xs spot s))
       ∙ ap (λ b. cond (b && not (value.holds p x.test s.cells)) (Stop Dismisses s) (assume_all p I xs spot s)) (sym h)
 
-  pub assume_passed : (x : Placed) (xs : List Placed) (spot : Spot) (s : Left) → stands p I true spot x ≡ false → assume_all p I xs spot s ≡ assume_all p I (x ∷ xs) spot s
+  pub assume_passed : (x : Placed) (xs : List Placed) (spot : Spot) (s : JudgedState) → stands p I true spot x ≡ false → assume_all p I xs spot s ≡ assume_all p I (x ∷ xs) spot s
   assume_passed x xs spot s h = ap (λ b. cond (b && not (value.holds p x.test s.cells)) (Stop Dismisses s) (assume_all p I xs spot s)) (sym h)
 
   -- ---- the invariants before an index, and the next one
-  pub tests_snoc : (xs : List Placed) (i : ℕ) (x : Placed) (at_loop : Bool) (spot : Spot) (kind : DutyKind) (s : Left)
+  pub tests_snoc : (xs : List Placed) (i : ℕ) (x : Placed) (at_loop : Bool) (spot : Spot) (kind : DutyKind) (s : JudgedState)
       → test_from p I i (xs ++ x ∷ []) at_loop spot kind s ≡ bind (test_from p I i xs at_loop spot kind s) (λ u. test_from p I (i + length xs) (x ∷ []) at_loop spot kind)
   tests_snoc [] i x at_loop spot kind s = let e : i + 0 ≡ i = omega arith in ap (λ j. test_from p I j (x ∷ []) at_loop spot kind s) (sym e)
   tests_snoc (y ∷ ys) i x at_loop spot kind s =
       let e : suc i + length ys ≡ i + suc (length ys) = omega arith in
-      let failed : Res Stopped Left (Unit {0}) = Stop (Fails (duty spot kind (Some i))) s in
+      let failed : Res Stopped JudgedState (Unit {0}) = Stop (Fails (duty spot kind (Some i))) s in
       ap (cond (stands p I at_loop spot y && not (value.holds p y.test s.cells)) failed) (tests_snoc ys (suc i) x at_loop spot kind s)
       ∙ sym (over_cond (stands p I at_loop spot y && not (value.holds p y.test s.cells)) failed (test_from p I (suc i) ys at_loop spot kind s) (λ u. test_from p I (suc i + length ys) (x ∷ []) at_loop spot kind))
       ∙ ap (λ j. bind (test_from p I i (y ∷ ys) at_loop spot kind s) (λ u. test_from p I j (x ∷ []) at_loop spot kind)) e
 
-  pub assumes_snoc : (xs : List Placed) (x : Placed) (spot : Spot) (s : Left) → assume_all p I (xs ++ x ∷ []) spot s ≡ bind (assume_all p I xs spot s) (λ u. assume_all p I (x ∷ []) spot)
+  pub assumes_snoc : (xs : List Placed) (x : Placed) (spot : Spot) (s : JudgedState) → assume_all p I (xs ++ x ∷ []) spot s ≡ bind (assume_all p I xs spot s) (λ u. assume_all p I (x ∷ []) spot)
   assumes_snoc [] x spot s = refl
   assumes_snoc (y ∷ ys) x spot s =
-      let dismissed : Res Stopped Left (Unit {0}) = Stop Dismisses s in
+      let dismissed : Res Stopped JudgedState (Unit {0}) = Stop Dismisses s in
       ap (cond (stands p I true spot y && not (value.holds p y.test s.cells)) dismissed) (assumes_snoc ys x spot s)
       ∙ sym (over_cond (stands p I true spot y && not (value.holds p y.test s.cells)) dismissed (assume_all p I ys spot s) (λ u. assume_all p I (x ∷ []) spot))
 
-  alone : (r : Res Stopped Left (Unit {0})) → bind r (λ u s. Go tt s) ≡ r
+  alone : (r : Res Stopped JudgedState (Unit {0})) → bind r (λ u s. Go tt s) ≡ r
   alone (Go tt s) = refl
   alone (Stop e s) = refl

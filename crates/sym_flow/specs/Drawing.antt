@@ -6,16 +6,18 @@ use Rattle.c_core.specs.declared.number.Spot.{Spot}
 use Rattle.c_meaning.specs.declared.run.DrawKind.{DrawKind}
 use Rattle.c_meaning.specs.Acts.{Res, Go, bind, write}
 use Rattle.c_meaning.specs.Objects.{type_of_object, size_of_object}
-use Rattle.c_meaning.specs.Havoc.{Stopped, Left, cells_left, with_cells_left, draw}
+use Rattle.c_meaning.specs.Havoc.{Stopped}
+use Rattle.sym_meaning.specs.Mode.{JudgedState, cells_judged, with_cells_judged}
+use Rattle.sym_meaning.specs.Judged.{draw}
 use Rattle.sym_state.specs.Places.{key}
 
 module _ (p : Program) where
   -- a cell draws its value
-  abbrev pub cell_drawn : DrawKind → Spot → ℕ → ℕ → Left → Res Stopped Left (Unit {0})
-  cell_drawn from spot o i s = bind (draw p [] from spot (type_of_object p o) s) (λ z. write Stopped Left cells_left with_cells_left (key o i) z)
+  abbrev pub cell_drawn : DrawKind → Spot → ℕ → ℕ → JudgedState → Res Stopped JudgedState (Unit {0})
+  cell_drawn from spot o i s = bind (draw p from spot (type_of_object p o) s) (λ z. write Stopped JudgedState cells_judged with_cells_judged (key o i) z)
 
   -- this many cells of an object, from an index on
-  abbrev pub cells_drawn : DrawKind → Spot → ℕ → ℕ → ℕ → Left → Res Stopped Left (Unit {0})
+  abbrev pub cells_drawn : DrawKind → Spot → ℕ → ℕ → ℕ → JudgedState → Res Stopped JudgedState (Unit {0})
   cells_drawn from spot o i zero s = Go tt s
   cells_drawn from spot o i (suc n) s = bind (cell_drawn from spot o i s) (λ u. cells_drawn from spot o (suc i) n)
 

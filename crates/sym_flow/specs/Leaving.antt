@@ -1,4 +1,4 @@
--- A statement, followed through all havoc runs at once.
+-- A statement, followed through all judged runs at once.
 --
 -- A statement takes each run that is here to where the definition takes it: on, to the statement after it; out of a loop's body, a
 -- loop or a function, where the run stands at the bit `again`, `broken` or `gave` and nowhere else; or to its end. A run that isn't
@@ -13,14 +13,15 @@ use Rattle.c_core.specs.declared.number.IntType.{IntType}
 use Rattle.c_meaning.specs.declared.run.Duty.{Duty}
 use Rattle.c_meaning.specs.Cells.{Cell}
 use Rattle.c_meaning.specs.Acts.{Res, Go, Stop, Flow, Next, Broken, Again, Gave}
-use Rattle.c_meaning.specs.Havoc.{Stopped, Left}
+use Rattle.c_meaning.specs.Havoc.{Stopped}
+use Rattle.sym_meaning.specs.Mode.{JudgedState}
 use Rattle.sym_state.specs.declared.state.Sym.{Sym}
 use Rattle.sym_state.specs.Standing.{Stand, stand, IsState, Added, Moves, IsHere, IsOver, marks}
 use Rattle.sym_state.specs.Following.{left_of, Taken, Deed}
 
 -- a run on its way out, which failed nothing: it stands at one of the three bits. Its cells are those that it had when it set out, of
 -- which this many stood before the statement; what is declared meanwhile stands after them
-pub record IsAway (ds : List Duty) (out on back : Bool) (around : ℕ) (rest : List ℤ) (s : Left) (new : Stand) : Type 0 where
+pub record IsAway (ds : List Duty) (out on back : Bool) (around : ℕ) (rest : List ℤ) (s : JudgedState) (new : Stand) : Type 0 where
   pub live : new.live ≡ false
   pub broken : new.broken ≡ out
   pub again : new.again ≡ on
@@ -28,19 +29,21 @@ pub record IsAway (ds : List Duty) (out on back : Bool) (around : ℕ) (rest : L
   pub failing : new.failing ≡ marks 0 (length ds)
   pub values : s.values ≡ rest
   pub draws : s.draws ≡ new.draws
+  pub completed : s.completed ≡ new.completed
   pub least : around ≤ length s.cells
   pub junk : List Cell
   pub cells : new.cells ≡ s.cells ++ junk
 
--- what a function gave: a value of its result; nothing is asked where it has none (C11 6.8.6.4p1)
+-- what a function gave: a value of its result, or none where it has none (C11 6.8.6.4p1)
 abbrev pub IsGiven : Option IntType → Stand → Option ℤ → Type 0
-IsGiven None new v = Unit {0}
+IsGiven None new None = Unit {0}
+IsGiven None new (Some z) = ⊥
 IsGiven (Some ty) new None = ⊥
 IsGiven (Some ty) new (Some z) = z ≡ new.given
 
 -- where a statement of a function of this result took a run; this many cells stood before it
 module _ (ds : List Duty) (gives : Option IntType) (around : ℕ) where
-  abbrev pub Went : Stand → List ℤ → Res Stopped Left Flow → Type 0
+  abbrev pub Went : Stand → List ℤ → Res Stopped JudgedState Flow → Type 0
   Went new rest (Go Next s) = IsHere (length ds) new × (s ≡ left_of new rest)
   Went new rest (Go Broken s) = IsAway ds true false false around rest s new
   Went new rest (Go Again s) = IsAway ds false true false around rest s new

@@ -1,8 +1,8 @@
 // Around a function's body: what is around it is kept, and comes back after it.
-ghost use Rattle.std.specs.Prelude.{◌≡◌, ◌<◌, ◌^◌, ◌||◌, IfOk, cond, length};
+ghost use Rattle.std.specs.Prelude.{◌≡◌, ◌<◌, ◌^◌, ◌&&◌, ◌||◌, IfOk, length, not};
 ghost use Rattle.c_core.specs.View.{program_view};
 ghost use Rattle.circuits.specs.Net.{holds, Grown, IsIn, Means};
-ghost use Rattle.sym_state.specs.Standing.{IsState};
+ghost use Rattle.sym_state.specs.Standing.{IsState, Turned, stopped};
 ghost use Rattle.sym_flow.specs.Calling.{Enters, IsAround, IsAroundIn, CameBack};
 
 use crate::ways::{either, never};
@@ -10,7 +10,7 @@ use c_core::{IntType, Program};
 use circuits::{Bit, Bits, Net, const_bits};
 use std::alloc::Global;
 use std::mem;
-use sym_state::Sym;
+use sym_state::{Sym, stop};
 use wv_base::OutOfMemory;
 
 /// The bits of the ways out around a call, the value that the function around gave, and its type.
@@ -51,15 +51,15 @@ pub fn enter(
     Ok(caller)
 }
 
-// Which runs go on after a call: those that gave a value, where it is needed; else all that came to the body's end.
-fn going_on(
-    net: &mut Net,
-    live: Bit,
-    broken: Bit,
-    again: Bit,
-    gave: Bit,
-    needed: bool,
-) -> Result<Bit, OutOfMemory>
+/// What came back from a call: the value that the function gave, and the bit of the runs in which it gave one.
+#[derive(Drop)]
+pub struct Given {
+    pub value: Bits,
+    pub gave: Bit,
+}
+
+// The runs that came to the end of a function's body, and those on their way out of it.
+fn all_ways(net: &mut Net, live: Bit, broken: Bit, again: Bit, gave: Bit) -> Result<Bit, OutOfMemory>
     requires live_in { IsIn net.old live }
     requires broken_in { IsIn net.old broken }
     requires again_in { IsIn net.old again }
@@ -67,39 +67,28 @@ fn going_on(
     requires room { length net.old < 2 ^ 28 }
     ensures grown { Grown 3 net.old net.new }
     ensures value { IfOk result (λ r. Means net.new r
-        (λ v. cond needed (holds v net.old gave)
-        (holds v net.old live || (holds v net.old broken || (holds v net.old again || holds v net.old gave))))) }
+        (λ v. holds v net.old live || (holds v net.old broken || (holds v net.old again || holds v net.old gave)))) }
 {
-    if needed {
-        return Ok(gave);
-    }
     let two = either(net, again, gave)?;
     let three = either(net, broken, two)?;
     let four = either(net, live, three)?;
     Ok(four)
 }
 
-/// After a function's body: the bits of what is around the call are back. Gives the value that the function gave.
+/// After a function's body: the bits of what is around the call are back, and all runs that came out of the body go on.
 pub fn come_back(
     program: &Program,
     sym: &mut Sym,
     caller: Caller,
     cells: usize,
-    needed: bool,
-) -> Result<Bits, OutOfMemory>
+) -> Result<Given, OutOfMemory>
     requires fits { IsState (program_view program.now) sym.old }
     requires caller_in { IsAroundIn (program_view program.now) caller sym.old.net }
     requires room { length sym.old.net < 2 ^ 28 }
-    ensures { IfOk result (λ r. CameBack (program_view program.now) needed caller cells sym.old sym.new r.bits) }
+    ensures { IfOk result (λ r. CameBack (program_view program.now) caller cells sym.old sym.new r.value.bits r.gave) }
 {
-    let live = going_on(
-        &mut sym.net,
-        sym.live,
-        sym.broken,
-        sym.again,
-        sym.gave,
-        needed,
-    )?;
+    let gave = sym.gave;
+    let live = all_ways(&mut sym.net, sym.live, sym.broken, sym.again, gave)?;
     let value = mem::replace(&mut sym.given, caller.given);
     sym.live = live;
     sym.broken = caller.broken;
@@ -107,5 +96,19 @@ pub fn come_back(
     sym.gave = caller.gave;
     sym.result = caller.result;
     sym.cells.truncate(cells);
-    Ok(value)
+    Ok(Given { value, gave })
+}
+
+/// Where a call's value is needed, only runs that gave one go on (C11 6.9.1p12).
+pub fn need(sym: &mut Sym, program: &Program, gave: Bit, needed: bool) -> Result<(), OutOfMemory>
+    requires fits { IsState (program_view program.now) sym.old }
+    requires gave_in { IsIn sym.old.net gave }
+    requires room { length sym.old.net < 2 ^ 28 }
+    ensures { IfOk result (λ r. Turned (program_view program.now) 1 0 sym.old sym.new
+        (λ v. stopped (needed && not (holds v sym.old.net gave)))) }
+{
+    if needed {
+        stop(sym, program, circuits::not(gave))?;
+    }
+    Ok(())
 }

@@ -4,7 +4,7 @@ ghost use Rattle.c_core.specs.Types.{width_of};
 ghost use Rattle.c_core.specs.View.{program_view};
 ghost use Rattle.c_meaning.specs.declared.run.Duty.{Duty};
 ghost use Rattle.c_meaning.specs.Duties.{Placed};
-ghost use Rattle.c_meaning.specs.Havoc.{redraw as redraw_of};
+ghost use Rattle.sym_meaning.specs.Obliging.{redraw as redraw_of};
 ghost use Rattle.c_meaning.specs.Objects as objects;
 ghost use Rattle.sym_state.specs.Standing.{IsState};
 ghost use Rattle.sym_state.specs.Following.{Follows};

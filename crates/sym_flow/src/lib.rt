@@ -1,5 +1,5 @@
 //! Statements over a symbolic state: ways out and back together, cells that come and go, tests of invariants, draws of
-//! many cells. Its one promise: each call takes every run that is here to where the definition of havoc runs takes it,
+//! many cells. Its one promise: each call takes every run that is here to where the definition of judged runs takes it,
 //! and lets all others be.
 #![tactic(auto)]
 
@@ -10,7 +10,7 @@ mod scopes;
 mod testing;
 mod ways;
 
-pub use calling::{Caller, come_back, enter};
+pub use calling::{Caller, Given, come_back, enter, need};
 pub use declaring::declare;
 pub use drawing::{draw_cells, redraw};
 pub use scopes::{cut, end_body, end_loop, start_body, start_loop};

@@ -8,7 +8,9 @@ use Rattle.c_core.specs.Tree.{Program}
 use Rattle.c_core.specs.declared.number.Spot.{Spot}
 use Rattle.c_meaning.specs.Acts.{Go}
 use Rattle.c_meaning.specs.Duties.{Placed, Duties, duty, function_duties, invariant_duties, is_less}
-use Rattle.c_meaning.specs.Havoc.{Left, stands, test_from, assume_all}
+use Rattle.c_meaning.specs.Havoc.{stands}
+use Rattle.sym_meaning.specs.Mode.{JudgedState}
+use Rattle.sym_meaning.specs.Obliging.{test_from, assume_all}
 use Rattle.c_core.specs.Parts.{same_spot}
 use Rattle.c_meaning.specs.declared.run.Duty.{Duty}
 use Rattle.c_meaning.specs.declared.run.DutyKind.{DutyKind}
@@ -89,7 +91,7 @@ module _ (p : Program) (I : List Placed) (at_loop : Bool) (spot : Spot) where
       let found : Contains ds y = subst (λ z. Contains z y) (sym same) (subst (Contains (Duties p I)) (own_at p I at_loop spot (get_or I k d) own.0 here ∙ ap (λ q. duty spot q (Some own.0)) (sym of)) among) in
       none_level ds rise (duty spot kind None) start point later y (level spot kind (Some own.0) None) (level spot kind None (Some own.0)) found)
 
-  tests_nothing : (kind : DutyKind) (i : ℕ) (xs : List Placed) → All (λ x. stands p I at_loop spot x ≡ false) xs → (s : Left) → test_from p I i xs at_loop spot kind s ≡ Go tt s
+  tests_nothing : (kind : DutyKind) (i : ℕ) (xs : List Placed) → All (λ x. stands p I at_loop spot x ≡ false) xs → (s : JudgedState) → test_from p I i xs at_loop spot kind s ≡ Go tt s
   tests_nothing kind i [] h s = refl
   tests_nothing kind i (x ∷ xs) h s =
       sym (test_passed p I i x xs at_loop spot kind s (h 0 x (omega arith))) ∙ tests_nothing kind (suc i) xs (λ k d l. h (suc k) d (omega (arith, l))) s
@@ -99,7 +101,7 @@ module _ (p : Program) (I : List Placed) (at_loop : Bool) (spot : Spot) where
   nothing_tested ds kind a n fits h = follows_as p ds (nothing_follows p ds a fits) (λ v u t. t) (λ v s. sym (tests_nothing kind 0 I h s)) (omega arith) (omega arith)
 
 module _ (p : Program) (I : List Placed) (spot : Spot) where
-  assumes_nothing : (xs : List Placed) → All (λ x. stands p I true spot x ≡ false) xs → (s : Left) → assume_all p I xs spot s ≡ Go tt s
+  assumes_nothing : (xs : List Placed) → All (λ x. stands p I true spot x ≡ false) xs → (s : JudgedState) → assume_all p I xs spot s ≡ Go tt s
   assumes_nothing [] h s = refl
   assumes_nothing (x ∷ xs) h s = sym (assume_passed p I x xs spot s (h 0 x (omega arith))) ∙ assumes_nothing xs (λ k d l. h (suc k) d (omega (arith, l))) s
 

@@ -73,5 +73,5 @@ module _ (ds : List Duty) (rise : IsSortedBy is_less ds) where
       past_differs (get_or (drop i ds) k z) (get_or ds i x) d h (subst (λ y. is_less y (get_or ds i x) ≡ false) same far))
 
 -- the obligations of a walk rise
-pub rises : (w : Walk) → IsWalk w → AreInOrder (program_of w) (invariants_of w) → IsSortedBy is_less w.duties.now
+pub rises : (w : Walk) → IsWalk w → AreInOrder (program_of w) (invariants_of w) → IsSortedBy is_less w.mode.duties.now
 rises w h order = subst (IsSortedBy is_less) (sym h.duties) order.rise

@@ -9,7 +9,9 @@ use Rattle.c_core.specs.Tree.{Program}
 use Rattle.c_core.specs.declared.number.Spot.{Spot}
 use Rattle.c_meaning.specs.Acts.{Res, Go, Stop, bind}
 use Rattle.c_meaning.specs.Duties.{Placed, Duties, duty, function_duties, invariant_duties}
-use Rattle.c_meaning.specs.Havoc.{Stopped, Dismisses, Fails, Left, stands, test_from, assume_all}
+use Rattle.c_meaning.specs.Havoc.{Stopped, Dismisses, Fails, stands}
+use Rattle.sym_meaning.specs.Mode.{JudgedState}
+use Rattle.sym_meaning.specs.Obliging.{test_from, assume_all}
 use Rattle.c_meaning.specs.Value as value
 use Rattle.c_meaning.specs.declared.run.Duty.{Duty}
 use Rattle.c_meaning.specs.declared.run.DutyKind.{DutyKind}
@@ -91,7 +93,7 @@ module _ (p : Program) (I : List Placed) (at_loop : Bool) (spot : Spot) (x : Pla
   pub room_behind : {a b : Sym} {test : Bit} → Holds p x.test a b test → length a.net + placed_weight p (x ∷ []) at_loop spot < 2 ^ 27 → length b.net < 2 ^ 27
   room_behind d room = omega (arith, room, weight_here p at_loop spot I x at, (longer_by d.turned.added).1)
 
-alone : (r : Res Stopped Left (Unit {0})) → bind r (λ u s. Go tt s) ≡ r
+alone : (r : Res Stopped JudgedState (Unit {0})) → bind r (λ u s. Go tt s) ≡ r
 alone (Go tt s) = refl
 alone (Stop e s) = refl
 

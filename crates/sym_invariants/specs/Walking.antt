@@ -5,7 +5,9 @@ use Rattle.c_core.specs.Tree.{Program}
 use Rattle.c_core.specs.View.{program_view}
 use Rattle.c_core.specs.declared.number.Spot.{Spot}
 use Rattle.c_meaning.specs.Duties.{Placed, Duties}
-use Rattle.c_meaning.specs.Havoc.{stands, test_from, assume_all}
+use Rattle.c_meaning.specs.Havoc.{stands}
+use Rattle.sym_meaning.specs.Mode.{Mode}
+use Rattle.sym_meaning.specs.Obliging.{test_from, assume_all, obliging}
 use Rattle.c_meaning.specs.declared.run.DutyKind.{DutyKind}
 use Rattle.sym_state.specs.Following.{Follows}
 use Rattle.sym_state.specs.declared.state.Sym.{Sym}
@@ -18,12 +20,16 @@ program_of w = program_view w.program.now
 
 -- the invariants in witness order
 abbrev pub invariants_of : Walk → List Placed
-invariants_of w = placed_view w.invariants.now
+invariants_of w = placed_view w.mode.invariants.now
+
+-- what is judged
+abbrev pub mode_of : Walk → Mode
+mode_of w = obliging (program_of w) (invariants_of w)
 
 -- the obligations are the program's, and their numbers have 32 bits
 pub record IsWalk (w : Walk) : Type 0 where
-  pub duties : w.duties.now ≡ Duties (program_of w) (invariants_of w)
-  pub numbered : length w.duties.now < 2 ^ 32
+  pub duties : w.mode.duties.now ≡ Duties (program_of w) (invariants_of w)
+  pub numbered : length w.mode.duties.now < 2 ^ 32
   pub invariants : All (IsInvariant (program_of w)) (invariants_of w)
 
 -- no invariant of a loop (true) or a statement (false) is at a place

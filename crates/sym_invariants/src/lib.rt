@@ -1,5 +1,5 @@
 //! What a walk over a program reads, the numbers of its obligations, and its invariants over a symbolic state. Its one
-//! promise: each invariant of a place is tested in turn, in every run that is here, as the definition of havoc runs
+//! promise: each invariant of a place is tested in turn, in every run that is here, as the definition of judged runs
 //! says.
 #![tactic(auto)]
 
@@ -13,4 +13,4 @@ mod walk;
 pub use numbers::{around, number_of};
 pub use testing::{assume_all, test_all};
 pub use values::holds_bit;
-pub use walk::Walk;
+pub use walk::{Obliging, Walk};

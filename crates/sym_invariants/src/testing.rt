@@ -50,7 +50,7 @@ fn test_one(
         invariant: Some(number),
     };
     duties_are_in_order();
-    let failed = number_of(walk.duties, &duty);
+    let failed = number_of(walk.mode.duties, &duty);
     assure(sym, walk.program, failed, holds)?;
     Ok(())
 }
@@ -93,7 +93,7 @@ pub fn test_all(
     if !has_invariants(walk, at_loop, spot) {
         return Ok(());
     }
-    let invariants = walk.invariants;
+    let invariants = walk.mode.invariants;
     let mut number = 0;
     for x in invariants {
         test_one(walk, sym, at_loop, spot, kind, number, x)?;
@@ -112,7 +112,7 @@ pub fn assume_all(walk: &Walk, sym: &mut Sym, spot: Spot) -> Result<(), OutOfMem
     if !has_invariants(walk, true, spot) {
         return Ok(());
     }
-    let invariants = walk.invariants;
+    let invariants = walk.mode.invariants;
     for x in invariants {
         assume_one(walk, sym, spot, x)?;
     }

@@ -5,7 +5,8 @@ use Rattle.c_core.specs.declared.number.DataModel.{DataModel}
 use Rattle.c_meaning.specs.declared.run.Draw.{Draw}
 use Rattle.c_meaning.specs.declared.run.Duty.{Duty}
 use Rattle.c_meaning.specs.Acts.{Res, Go, Stop, bind}
-use Rattle.c_meaning.specs.Havoc.{Stopped, Left}
+use Rattle.c_meaning.specs.Havoc.{Stopped}
+use Rattle.sym_meaning.specs.Mode.{JudgedState}
 use Rattle.c_meaning.specs.Run.{other_values}
 use Rattle.sym_state.specs.declared.state.Sym.{Sym}
 use Rattle.sym_state.specs.Standing.{Stand, stand, Kept, Moves, IsHere, IsOver, Turned}
@@ -20,6 +21,7 @@ kept_then {a} {b} {c} x y = record {
   gave = y.gave ∙ x.gave;
   given = y.given ∙ x.given;
   failing = y.failing ∙ x.failing;
+  completed = y.completed ∙ x.completed;
   draws = y.draws ∙ x.draws;
   junk = x.junk ++ y.junk;
   cells = y.cells ∙ ap (λ z. z ++ y.junk) x.cells ∙ append_assoc a.cells x.junk y.junk;
@@ -33,6 +35,7 @@ same_kept {a} {b} e = record {
   gave = ap (λ s. s.gave) e;
   given = ap (λ s. s.given) e;
   failing = ap (λ s. s.failing) e;
+  completed = ap (λ s. s.completed) e;
   draws = ap (λ s. s.draws) e;
   junk = [];
   cells = ap (λ s. s.cells) e ∙ sym (append-nil a.cells);
@@ -47,7 +50,7 @@ pub kept_same : {a b : Stand} → Kept a b → length b.cells ≡ length a.cells
 kept_same {a} {b} k h =
     let none : k.junk ≡ [] = no_items k.junk (omega (arith, h, ap length k.cells, length-append a.cells k.junk)) in
     let same : b.cells ≡ a.cells = k.cells ∙ ap (λ z. a.cells ++ z) none ∙ append-nil a.cells in
-    λ i. record { live = k.live i; broken = k.broken i; again = k.again i; gave = k.gave i; given = k.given i; failing = k.failing i; cells = same i; draws = k.draws i }
+    λ i. record { live = k.live i; broken = k.broken i; again = k.again i; gave = k.gave i; given = k.given i; failing = k.failing i; completed = k.completed i; cells = same i; draws = k.draws i }
 
 abbrev pub moves_then : {a b c : Stand} → Moves a b → Moves b c → Moves a c
 moves_then {a} {b} {c} x y = record {
@@ -73,8 +76,8 @@ none_taken m {a} {b} x {vs} {rest} d t = subst (λ z. Taken m z vs rest) (none_d
 
 module _ (m : DataModel) (ds : List Duty) where
   -- one part's result, and then the next part
-  pub came_then : {A B : Type 0} (S : A → Type 0) (T : B → Type 0) (b c : Stand) (y : Moves b c) (mid rest : List ℤ) (r : Res Stopped Left A) (k : A → Left → Res Stopped Left B) (next : Left → Res Stopped Left B)
-      → Taken m y.more mid rest → Came ds S b mid r → ((x : A) → S x → (s : Left) → k x s ≡ next s)
+  pub came_then : {A B : Type 0} (S : A → Type 0) (T : B → Type 0) (b c : Stand) (y : Moves b c) (mid rest : List ℤ) (r : Res Stopped JudgedState A) (k : A → JudgedState → Res Stopped JudgedState B) (next : JudgedState → Res Stopped JudgedState B)
+      → Taken m y.more mid rest → Came ds S b mid r → ((x : A) → S x → (s : JudgedState) → k x s ≡ next s)
       → (IsHere (length ds) b → Came ds T c rest (next (left_of b mid))) → Came ds T c rest (bind r k)
   came_then S T b c y mid rest (Go x s) k next t h e f =
       subst (λ z. Came ds T c rest (k x z)) (sym h.1) (subst (λ z. Came ds T c rest z) (sym (e x h.2 (left_of b mid))) (f h.0))
@@ -83,14 +86,14 @@ module _ (m : DataModel) (ds : List Duty) where
       (over_then h.0 q, h.1 ∙ none_taken m y h.0.live t, h.2 ∙ sym q.draws)
 
   -- the same value by another name
-  pub came_as : {A : Type 0} (S T : A → Type 0) (b : Stand) (rest : List ℤ) (r : Res Stopped Left A) → ((x : A) → S x → T x) → Came ds S b rest r → Came ds T b rest r
+  pub came_as : {A : Type 0} (S T : A → Type 0) (b : Stand) (rest : List ℤ) (r : Res Stopped JudgedState A) → ((x : A) → S x → T x) → Came ds S b rest r → Came ds T b rest r
   came_as S T b rest (Go x s) f h = (h.0, h.1, f x h.2)
   came_as S T b rest (Stop e s) f h = h
 
 module _ (p : Program) (ds : List Duty) where
   pub follows_then : {A B : Type 0} {i j k l : ℕ} {a b c : Sym} {S : (ℕ → Bool) → A → Type 0} {T : (ℕ → Bool) → B → Type 0} {m : Deed A} {next : Deed B}
-      (g n : ℕ) (f : (ℕ → Bool) → A → Left → Res Stopped Left B) → Follows ds p i j a b S m → Follows ds p k l b c T next
-      → ((v : ℕ → Bool) (x : A) → S v x → (s : Left) → f v x s ≡ next v s) → i + k ≤ g → j + l ≤ n → Follows ds p g n a c T (λ v s. bind (m v s) (f v))
+      (g n : ℕ) (f : (ℕ → Bool) → A → JudgedState → Res Stopped JudgedState B) → Follows ds p i j a b S m → Follows ds p k l b c T next
+      → ((v : ℕ → Bool) (x : A) → S v x → (s : JudgedState) → f v x s ≡ next v s) → i + k ≤ g → j + l ≤ n → Follows ds p g n a c T (λ v s. bind (m v s) (f v))
   follows_then {a = a} {b = b} {c = c} {S = S} {T = T} {m = m} {next = next} g n f x y e h q = record {
     fits = y.fits;
     added = added_then g n x.added y.added h q;
@@ -103,7 +106,7 @@ module _ (p : Program) (ds : List Duty) where
   }
 
   -- the same, told otherwise
-  pub follows_as : {A : Type 0} {i j k l : ℕ} {a b : Sym} {S T : (ℕ → Bool) → A → Type 0} {m next : Deed A} → Follows ds p i j a b S m → ((v : ℕ → Bool) (x : A) → S v x → T v x) → ((v : ℕ → Bool) (s : Left) → m v s ≡ next v s)
+  pub follows_as : {A : Type 0} {i j k l : ℕ} {a b : Sym} {S T : (ℕ → Bool) → A → Type 0} {m next : Deed A} → Follows ds p i j a b S m → ((v : ℕ → Bool) (x : A) → S v x → T v x) → ((v : ℕ → Bool) (s : JudgedState) → m v s ≡ next v s)
       → i ≤ k → j ≤ l → Follows ds p k l a b T next
   follows_as {k = k} {l = l} {a = a} {b = b} {S = S} {T = T} {m = m} {next = next} x f e h q = record {
     fits = x.fits;

@@ -4,3 +4,4 @@ pub mod Innermost
 pub mod Sites
 pub mod Stored
 pub mod Composed
+pub mod Telling

@@ -133,6 +133,7 @@ module _ {i j : ℕ} {s : Sym} {new : List NetNode} (g : Added i j s.net new) (p
     gave = in_added g s.gave h.gave;
     given = are_typed_added g h.given;
     failing = all_added g s.failing.items h.failing;
+    completed = all_added g s.completed.items h.completed;
     cells = cells_in g p s.cells.items h.cells;
     sites = t;
   }
@@ -149,6 +150,7 @@ module _ {i j : ℕ} {s : Sym} {new : List NetNode} (g : Added i j s.net new) (p
     gave = holds_added g v s.gave h.gave i;
     given = typed_added g p.model s.result v s.given.bits h.given i;
     failing = all_held g v s.failing.items h.failing i;
+    completed = all_held g v s.completed.items h.completed i;
     cells = cells_held g p v s.cells.items h.cells i;
     draws = draws_held g p v 0 (count_inputs s.net) s.sites.items h.sites i;
   }

@@ -72,7 +72,7 @@ module _ (p : Program) (s : Sym) (o i n : ℕ) (c : SymCell) (h : IsState p s) (
       let now : SymCell = record { object = c.object; index = c.index; bits = chosen } in
       let now_in : IsCell p net now = rw object (record { inside = m.inside; wide = m.wide ∙ iv.wide }) in
       record {
-        fits = record { live = w.live; broken = w.broken; again = w.again; gave = w.gave; given = w.given; failing = w.failing; cells = All-set (IsCell p net) s.cells.items n now now_in w.cells; sites = w.sites };
+        fits = record { live = w.live; broken = w.broken; again = w.again; gave = w.gave; given = w.given; failing = w.failing; completed = w.completed; cells = All-set (IsCell p net) s.cells.items n now now_in w.cells; sites = w.sites };
         added = added_of (subst (λ k. Grown (4 * k) s.net net) iv.wide g);
         level = length-set s.cells.items n now;
         result = refl;

@@ -25,7 +25,7 @@ module _ (p : Program) where
   turned_live s net r f h g m =
       let w = state_grown p g h in
       record {
-        fits = record { live = m.inside; broken = w.broken; again = w.again; gave = w.gave; given = w.given; failing = w.failing; cells = w.cells; sites = w.sites };
+        fits = record { live = m.inside; broken = w.broken; again = w.again; gave = w.gave; given = w.given; failing = w.failing; completed = w.completed; cells = w.cells; sites = w.sites };
         added = added_of g;
         level = refl;
         result = refl;
@@ -75,7 +75,7 @@ module _ (p : Program) where
   mark_turned s net at here r d h g m =
       let w = state_grown p g h in
       record {
-        fits = record { live = w.live; broken = w.broken; again = w.again; gave = w.gave; given = w.given; failing = All-set (λ b. IsIn net b) s.failing.items at r m.inside w.failing; cells = w.cells; sites = w.sites };
+        fits = record { live = w.live; broken = w.broken; again = w.again; gave = w.gave; given = w.given; failing = All-set (λ b. IsIn net b) s.failing.items at r m.inside w.failing; completed = w.completed; cells = w.cells; sites = w.sites };
         added = added_of g;
         level = refl;
         result = refl;

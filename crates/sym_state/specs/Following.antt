@@ -1,4 +1,4 @@
--- A symbolic state follows the havoc runs under all inputs.
+-- A symbolic state follows the judged runs under all inputs.
 --
 -- A part of a program takes each run that is here, from whatever values are left to draw, to where the definition takes it: on, with
 -- a value; or to its end. It says so for all lists of values from which the sites' draws can be taken, so that for every
@@ -12,16 +12,17 @@ use Rattle.c_meaning.specs.declared.run.Draw.{Draw}
 use Rattle.c_meaning.specs.declared.run.Duty.{Duty}
 use Rattle.c_meaning.specs.Run.{first_value, other_values, or_zero}
 use Rattle.c_meaning.specs.Acts.{Res, Go, Stop}
-use Rattle.c_meaning.specs.Havoc.{Stopped, Left}
+use Rattle.c_meaning.specs.Havoc.{Stopped}
+use Rattle.sym_meaning.specs.Mode.{JudgedState}
 use Rattle.circuits.specs.declared.net.Bit.{Bit}
 use Rattle.circuits.specs.declared.net.NetNode.{NetNode}
 use Rattle.circuits.specs.Numbers.{typed, AreTyped}
 use Rattle.sym_state.specs.declared.state.Sym.{Sym}
 use Rattle.sym_state.specs.Standing.{Stand, stand, IsState, Added, Moves, IsHere, IsOver}
 
--- the state of the havoc run, with these values left to draw
-abbrev pub left_of : Stand → List ℤ → Left
-left_of s vs = record { cells = s.cells; values = vs; draws = s.draws }
+-- the state of the judged run, with these values left to draw
+abbrev pub left_of : Stand → List ℤ → JudgedState
+left_of s vs = record { cells = s.cells; values = vs; draws = s.draws; completed = s.completed }
 
 -- these draws take their values from the front of a list, and leave the rest; past its end a draw is 0
 abbrev pub Taken : DataModel → List Draw → List ℤ → List ℤ → Type 0
@@ -30,11 +31,11 @@ Taken m (d ∷ ds) vs rest = (fit m d.ty (or_zero (first_value vs)) ≡ d.value)
 
 -- what a part does: a part of a run's state under inputs, and the result
 abbrev pub Deed : Type 0 → Type 0
-Deed A = (ℕ → Bool) → Left → Res Stopped Left A
+Deed A = (ℕ → Bool) → JudgedState → Res Stopped JudgedState A
 
 module _ (ds : List Duty) where
-  -- where the havoc run goes on, so does the run here, in the same state and with a value that is S; where it ends, so does the run here
-  abbrev pub Came : {A : Type 0} → (A → Type 0) → Stand → List ℤ → Res Stopped Left A → Type 0
+  -- where the judged run goes on, so does the run here, in the same state and with a value that is S; where it ends, so does the run here
+  abbrev pub Came : {A : Type 0} → (A → Type 0) → Stand → List ℤ → Res Stopped JudgedState A → Type 0
   Came S new rest (Go a s) = IsHere (length ds) new × (s ≡ left_of new rest) × S a
   Came S new rest (Stop e s) = IsOver ds e new × (s.values ≡ rest) × (s.draws ≡ new.draws)
 

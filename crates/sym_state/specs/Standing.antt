@@ -1,6 +1,6 @@
--- Where a havoc run stands under inputs: what a symbolic state is there.
+-- Where a judged run stands under inputs: what a symbolic state is there.
 --
--- A symbolic state is a net, and bits of it that tell of each havoc run where it is. Under the inputs v it stands for one run:
+-- A symbolic state is a net, and bits of it that tell of each judged run where it is. Under the inputs v it stands for one run:
 -- `stand p v s`. The run is here where `live` is true. It is on its way out of a loop's body, a loop or a function where `again`,
 -- `broken` or `gave` is. It failed at the obligation whose failing bit is true. Elsewhere it ended and failed nothing.
 -- Which cells there are doesn't depend on the inputs, so no cell is merged where ways join: a write chooses by `live`.
@@ -30,6 +30,7 @@ pub record Stand : Type 0 where
   pub gave : Bool
   pub given : ℤ
   pub failing : List Bool
+  pub completed : List Bool
   pub cells : List Cell
   pub draws : List Draw
 
@@ -57,6 +58,7 @@ stand p v s = record {
   gave = holds v s.net s.gave;
   given = typed p.model s.result v s.net s.given.bits;
   failing = map (holds v s.net) s.failing.items;
+  completed = map (holds v s.net) s.completed.items;
   cells = map (cell_at p v s.net) s.cells.items;
   draws = draws_at p v s.net s.sites.items;
 }
@@ -86,6 +88,7 @@ pub record IsState (p : Program) (s : Sym) : Type 0 where
   pub gave : IsIn s.net s.gave
   pub given : AreTyped p.model s.result s.net s.given.bits
   pub failing : AreIn s.net s.failing.items
+  pub completed : AreIn s.net s.completed.items
   pub cells : All (IsCell p s.net) s.cells.items
   pub sites : AreSites p.model s.net 0 s.sites.items (count_inputs s.net)
 
@@ -105,6 +108,7 @@ pub record Kept (old new : Stand) : Type 0 where
   pub gave : new.gave ≡ old.gave
   pub given : new.given ≡ old.given
   pub failing : new.failing ≡ old.failing
+  pub completed : new.completed ≡ old.completed
   pub draws : new.draws ≡ old.draws
   pub junk : List Cell
   pub cells : new.cells ≡ old.cells ++ junk

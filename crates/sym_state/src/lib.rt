@@ -1,4 +1,4 @@
-//! The symbolic state of all havoc runs of a program at once: a net, and bits of it that tell of each run where it is
+//! The symbolic state of all judged runs of a program at once: a net, and bits of it that tell of each run where it is
 //! and what its cells hold. Its one promise: each call turns the state as it says under every input of the net, with at
 //! most the and-nodes that it states.
 #![tactic(auto)]

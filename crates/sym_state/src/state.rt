@@ -33,6 +33,7 @@ pub struct Sym {
     pub result: IntType,
     pub given: Bits,
     pub failing: Vec<Bit>,
+    pub completed: Vec<Bit>,
     pub cells: Vec<SymCell>,
     pub sites: Vec<DrawSite>,
 }

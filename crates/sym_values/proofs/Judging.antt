@@ -1,5 +1,5 @@
 -- Where a run ends at an operator.
-use Rattle.std.proofs.Common.{◌≡◌, ℕ, zero, suc, ◌+◌, Bool, true, false, not, ◌&&◌, ◌||◌, ℤ, List, [], ◌∷◌, length, refl, sym, ◌∙◌, ap, ap₂, subst, arith, Some}
+use Rattle.std.proofs.Common.{◌≡◌, ℕ, zero, suc, ◌+◌, Bool, true, false, not, ◌&&◌, ◌||◌, ℤ, List, [], ◌∷◌, length, refl, sym, ◌∙◌, ap, ap₂, subst, arith, cond, Option, Some, None}
 use Rattle.c_core.specs.Tree.{Program}
 use Rattle.c_core.specs.Types.{fit, promote_of}
 use Rattle.c_core.specs.Operators.{apply_of, apply_one_of, type_for, right_type_for}
@@ -12,8 +12,10 @@ use Rattle.c_core.specs.declared.number.Property.TheVariants.{UnreachCall, NoOve
 use Rattle.c_core.specs.declared.number.DataModel.{DataModel}
 use Rattle.c_core.specs.declared.number.Done.{Done}
 use Rattle.c_core.specs.declared.number.Done.TheVariants.{Value, Overflow, Undefined}
-use Rattle.c_meaning.specs.Havoc.{answered, overflowed}
-use Rattle.c_meaning.specs.Duties.{Placed, Duties}
+use Rattle.sym_meaning.specs.Mode.{Mode}
+use Rattle.c_meaning.specs.declared.run.Event.TheVariants.{Fail}
+use Rattle.c_meaning.specs.Havoc.{Passes, Fails}
+use Rattle.sym_meaning.specs.Judged.{answered, overflowed}
 use Rattle.circuits.specs.declared.net.Bit.{Bit}
 use Rattle.circuits.specs.declared.net.NetNode.{NetNode}
 use Rattle.circuits.specs.declared.bits.Outcome.{Outcome}
@@ -23,7 +25,7 @@ use Rattle.circuits.specs.Outcome as C
 use Rattle.circuits.proofs.Nets.{grown_then}
 use Rattle.sym_state.specs.declared.state.Sym.{Sym}
 use Rattle.sym_state.specs.declared.state.Around.{Around}
-use Rattle.sym_state.specs.Standing.{Stand, stand, IsState, IsHere, Turned, marks, marked, stopped, failed}
+use Rattle.sym_state.specs.Standing.{Stand, stand, IsState, IsHere, Turned, marks, marked, number_of_end, stopped, failed}
 use Rattle.sym_state.specs.Following.{left_of, Came}
 use Rattle.sym_state.proofs.Nets.{added_of, added_then, holds_added, typed_added, are_typed_added, state_grown, stand_grown}
 use Rattle.sym_state.proofs.Composed.{turned_follows}
@@ -72,11 +74,18 @@ judged_dead NoOverflow k o u a h =
     λ i. record a { live = (ap (λ l. l && not o && not u) h ∙ sym h) i; failing = (ap (λ l. marked k (l && o) a.failing) h ∙ marked_none k a.failing) i }
 judged_dead UnreachCall k o u a h = λ i. record a { live = (ap (λ l. l && not u) h ∙ sym h) i }
 
-module _ (p : Program) (I : List Placed) (at : Around) (duty_at : IsDutyAt p I at) where
-  came_here : (z r : ℤ) (y : Property) (a : Stand) (rest : List ℤ) → IsHere (length (Duties p I)) a → z ≡ r → Came (Duties p I) (λ u. u ≡ z) (judged y at.duty false false a) rest (answered p I (where_of at) (Value r) (left_of a rest))
-  came_here z r y a rest h q = let e = judged_none y at.duty a in (subst (IsHere (length (Duties p I))) (sym e) h, ap (λ b. left_of b rest) (sym e), sym q)
+module _ (p : Program) (W : Mode) (at : Around) (duty_at : IsDutyAt p W at) where
+  -- a violation here, of a call or of an operator, fails the obligation of the number after `duty`
+  pub violation_marks : (call : Option Spot) (a : Stand)
+      → marks (suc at.duty) (length W.duties) ≡ marks (number_of_end W.duties (cond (W.counts (Fail at.statement at.full call) a.cells a.completed) (Fails (W.duty_at (where_of at))) Passes)) (length W.duties)
+  violation_marks call a =
+      ap (λ k. marks k (length W.duties)) (sym duty_at.number)
+      ∙ ap (λ c. marks (number_of_end W.duties (cond c (Fails (W.duty_at (where_of at))) Passes)) (length W.duties)) (sym (duty_at.counts call a.cells a.completed))
 
-  came_over : (y : Property) (z r : ℤ) (a : Stand) (rest : List ℤ) → IsHere (length (Duties p I)) a → z ≡ r → Came (Duties p I) (λ u. u ≡ z) (judged y at.duty true false a) rest (overflowed p I y (where_of at) r (left_of a rest))
+  came_here : (z r : ℤ) (y : Property) (a : Stand) (rest : List ℤ) → IsHere (length W.duties) a → z ≡ r → Came W.duties (λ u. u ≡ z) (judged y at.duty false false a) rest (answered p W (where_of at) (Value r) (left_of a rest))
+  came_here z r y a rest h q = let e = judged_none y at.duty a in (subst (IsHere (length W.duties)) (sym e) h, ap (λ b. left_of b rest) (sym e), sym q)
+
+  came_over : (y : Property) (z r : ℤ) (a : Stand) (rest : List ℤ) → IsHere (length W.duties) a → z ≡ r → Came W.duties (λ u. u ≡ z) (judged y at.duty true false a) rest (overflowed p W y (where_of at) r (left_of a rest))
   came_over UnreachCall z r a rest h q = came_here z r UnreachCall a rest h q
   came_over NoOverflow z r a rest h q = (
     record {
@@ -84,13 +93,13 @@ module _ (p : Program) (I : List Placed) (at : Around) (duty_at : IsDutyAt p I a
       broken = h.broken;
       again = h.again;
       gave = h.gave;
-      failing = ap₂ (λ l fs. marked at.duty (l && true) fs) h.live h.failing ∙ marked_one at.duty (length (Duties p I)) ∙ ap (λ k. marks k (length (Duties p I))) (sym duty_at);
+      failing = ap₂ (λ l fs. marked at.duty (l && true) fs) h.live h.failing ∙ marked_one at.duty (length W.duties) ∙ violation_marks None a;
     },
     refl,
     refl,
   )
 
-  came_undefined : (y : Property) (z : ℤ) (a : Stand) (rest : List ℤ) → IsHere (length (Duties p I)) a → Came (Duties p I) (λ u. u ≡ z) (judged y at.duty false true a) rest (answered p I (where_of at) Undefined (left_of a rest))
+  came_undefined : (y : Property) (z : ℤ) (a : Stand) (rest : List ℤ) → IsHere (length W.duties) a → Came W.duties (λ u. u ≡ z) (judged y at.duty false true a) rest (answered p W (where_of at) Undefined (left_of a rest))
   came_undefined UnreachCall z a rest h = (record { live = and_no a.live; broken = h.broken; again = h.again; gave = h.gave; failing = h.failing }, refl, refl)
   came_undefined NoOverflow z a rest h = (
     record {
@@ -104,8 +113,8 @@ module _ (p : Program) (I : List Placed) (at : Around) (duty_at : IsDutyAt p I a
     refl,
   )
 
-  answer_came : (d : Done) (z : ℤ) (a : Stand) (rest : List ℤ) → IsHere (length (Duties p I)) a → C.HasValue d z
-      → Came (Duties p I) (λ u. u ≡ z) (judged p.property at.duty (C.overflowed d) (C.undefined d) a) rest (answered p I (where_of at) d (left_of a rest))
+  answer_came : (d : Done) (z : ℤ) (a : Stand) (rest : List ℤ) → IsHere (length W.duties) a → C.HasValue d z
+      → Came W.duties (λ u. u ≡ z) (judged p.property at.duty (C.overflowed d) (C.undefined d) a) rest (answered p W (where_of at) d (left_of a rest))
   answer_came (Value r) z a rest h q = came_here z r p.property a rest h q
   answer_came (Overflow r) z a rest h q = came_over p.property z r a rest h q
   answer_came Undefined z a rest h q = came_undefined p.property z a rest h
@@ -113,7 +122,7 @@ module _ (p : Program) (I : List Placed) (at : Around) (duty_at : IsDutyAt p I a
   -- an operator: its circuit, and then the ends of runs
   pub answer_gives : (s n : Sym) (net : List NetNode) (ty : IntType) (o : Outcome) (k : ℕ) (done : (ℕ → Bool) → Done) → IsState p s → Grown k s.net net → C.Gives p.model ty net o done
       → Turned p 4 0 (record s { net = net }) n (λ v. judged p.property at.duty (holds v net o.overflow) (holds v net o.undefined))
-      → Gives p I (4 + k) 0 s n (Some ty) o.value.bits (λ v l. answered p I (where_of at) (done v) l)
+      → Gives p W (4 + k) 0 s n (Some ty) o.value.bits (λ v l. answered p W (where_of at) (done v) l)
   answer_gives s n net ty o k done h g c x =
       let f : (ℕ → Bool) → Stand → Stand = λ v. judged p.property at.duty (C.overflowed (done v)) (C.undefined (done v)) in
       let whole : Turned p (4 + k) 0 s n f = record {
@@ -125,10 +134,10 @@ module _ (p : Program) (I : List Placed) (at : Around) (duty_at : IsDutyAt p I a
       } in
       record {
         bits_in = are_typed_added x.added c.value;
-        follows = turned_follows p (Duties p I) f whole (λ v. judged_draws p.property at.duty (C.overflowed (done v)) (C.undefined (done v)) (stand p v s))
+        follows = turned_follows p W.duties f whole (λ v. judged_draws p.property at.duty (C.overflowed (done v)) (C.undefined (done v)) (stand p v s))
             (λ v d. judged_dead p.property at.duty (C.overflowed (done v)) (C.undefined (done v)) (stand p v s) d)
             (λ v here rest.
-            subst (λ z. Came (Duties p I) (λ u. u ≡ z) (f v (stand p v s)) rest (answered p I (where_of at) (done v) (left_of (stand p v s) rest))) (sym (typed_added x.added p.model ty v o.value.bits c.value))
+            subst (λ z. Came W.duties (λ u. u ≡ z) (f v (stand p v s)) rest (answered p W (where_of at) (done v) (left_of (stand p v s) rest))) (sym (typed_added x.added p.model ty v o.value.bits c.value))
             (answer_came (done v) (typed p.model ty v net o.value.bits) (stand p v s) rest here (c.value_is v)));
       }
 
@@ -147,44 +156,44 @@ module _ (p : Program) (at : Around) (spot : Spot) (op : BinOp) (a b : IntType) 
   abbrev done_in : IntType → IntType → (ℕ → Bool) → Done
   done_in ty right v = apply_of p.model op ty (fit p.model ty (typed p.model a v s.net x)) (fit p.model right (typed p.model b v s.net y))
 
-  in_types : (ty right : IntType) (I : List Placed) → IsDutyAt p I at → IsState p s → AreTyped p.model b s.net y
+  in_types : (ty right : IntType) (W : Mode) → IsDutyAt p W at → IsState p s → AreTyped p.model b s.net y
       → Grown (C.conversion_cost p.model a ty) s.net one → Reads p.model ty one u (λ v. fit p.model ty (typed p.model a v s.net x))
       → Grown (C.conversion_cost p.model b right) one two → Reads p.model right two w (λ v. fit p.model right (typed p.model b v one y))
       → Grown (C.binary_cost p.model op ty) two net → C.Gives p.model (C.binary_type op ty) net o (λ v. apply_of p.model op ty (typed p.model ty v two u) (typed p.model right v two w))
       → Turned p 4 0 (record s { net = net }) n (λ v. judged p.property at.duty (holds v net o.overflow) (holds v net o.undefined))
-      → Gives p I (4 + (C.conversion_cost p.model a ty + (C.conversion_cost p.model b right + C.binary_cost p.model op ty))) 0 s n (Some (C.binary_type op ty)) o.value.bits (λ v l. answered p I (where_of at) (done_in ty right v) l)
-  in_types ty right I d h iy g1 r1 g2 r2 g3 c z =
+      → Gives p W (4 + (C.conversion_cost p.model a ty + (C.conversion_cost p.model b right + C.binary_cost p.model op ty))) 0 s n (Some (C.binary_type op ty)) o.value.bits (λ v l. answered p W (where_of at) (done_in ty right v) l)
+  in_types ty right W d h iy g1 r1 g2 r2 g3 c z =
       let j = C.conversion_cost p.model b right + C.binary_cost p.model op ty in
       let k = C.conversion_cost p.model a ty + j in
       let g = grown_then (C.conversion_cost p.model a ty) j k s.net one net g1 (grown_then (C.conversion_cost p.model b right) (C.binary_cost p.model op ty) j one two net g2 g3 (omega arith)) (omega arith) in
-      answer_gives p I at d s n net (C.binary_type op ty) o k (done_in ty right) h g
+      answer_gives p W at d s n net (C.binary_type op ty) o k (done_in ty right) h g
       (gives_as (done_in ty right) c (λ v. ap₂ (apply_of p.model op ty) (typed_added (added_of g2) p.model ty v u r1.bits_in ∙ r1.is v) (r2.is v ∙ ap (fit p.model right) (typed_added (added_of g1) p.model b v y iy)))) z
 
-  pub operate_gives : (ty right : IntType) (I : List Placed) → ty ≡ type_for p.model op a b → right ≡ right_type_for op (type_for p.model op a b) b → IsDutyAt p I at → IsState p s → AreTyped p.model b s.net y
+  pub operate_gives : (ty right : IntType) (W : Mode) → ty ≡ type_for p.model op a b → right ≡ right_type_for op (type_for p.model op a b) b → IsDutyAt p W at → IsState p s → AreTyped p.model b s.net y
       → Grown (C.conversion_cost p.model a ty) s.net one → Reads p.model ty one u (λ v. fit p.model ty (typed p.model a v s.net x))
       → Grown (C.conversion_cost p.model b right) one two → Reads p.model right two w (λ v. fit p.model right (typed p.model b v one y))
       → Grown (C.binary_cost p.model op ty) two net → C.Gives p.model (C.binary_type op ty) net o (λ v. apply_of p.model op ty (typed p.model ty v two u) (typed p.model right v two w))
       → Turned p 4 0 (record s { net = net }) n (λ v. judged p.property at.duty (holds v net o.overflow) (holds v net o.undefined))
-      → Gives p I (operated_cost p.model op a b) 0 s n (Some (C.binary_type op (type_for p.model op a b))) o.value.bits (operated p I at spot op a x b y s)
-  operate_gives ty right I et er d h iy g1 r1 g2 r2 g3 c z =
-      subst (λ t. Gives p I (4 + (C.conversion_cost p.model a (type_for p.model op a b) + (C.conversion_cost p.model b t + C.binary_cost p.model op (type_for p.model op a b)))) 0 s n (Some (C.binary_type op (type_for p.model op a b))) o.value.bits (λ v l. answered p I (where_of at) (done_in (type_for p.model op a b) t v) l)) er
-      (subst (λ t. Gives p I (4 + (C.conversion_cost p.model a t + (C.conversion_cost p.model b right + C.binary_cost p.model op t))) 0 s n (Some (C.binary_type op t)) o.value.bits (λ v l. answered p I (where_of at) (done_in t right v) l)) et
-      (in_types ty right I d h iy g1 r1 g2 r2 g3 c z))
+      → Gives p W (operated_cost p.model op a b) 0 s n (Some (C.binary_type op (type_for p.model op a b))) o.value.bits (operated p W at spot op a x b y s)
+  operate_gives ty right W et er d h iy g1 r1 g2 r2 g3 c z =
+      subst (λ t. Gives p W (4 + (C.conversion_cost p.model a (type_for p.model op a b) + (C.conversion_cost p.model b t + C.binary_cost p.model op (type_for p.model op a b)))) 0 s n (Some (C.binary_type op (type_for p.model op a b))) o.value.bits (λ v l. answered p W (where_of at) (done_in (type_for p.model op a b) t v) l)) er
+      (subst (λ t. Gives p W (4 + (C.conversion_cost p.model a t + (C.conversion_cost p.model b right + C.binary_cost p.model op t))) 0 s n (Some (C.binary_type op t)) o.value.bits (λ v l. answered p W (where_of at) (done_in t right v) l)) et
+      (in_types ty right W d h iy g1 r1 g2 r2 g3 c z))
 
 module _ (p : Program) (at : Around) (op : UnOp) (a : IntType) (s n : Sym) (x u : List Bit) (o : Outcome) (one net : List NetNode) where
   abbrev one_in : IntType → (ℕ → Bool) → Done
   one_in ty v = apply_one_of p.model op ty (fit p.model ty (typed p.model a v s.net x))
 
-  pub operate_one_gives : (ty : IntType) (I : List Placed) → ty ≡ promote_of a → IsDutyAt p I at → IsState p s
+  pub operate_one_gives : (ty : IntType) (W : Mode) → ty ≡ promote_of a → IsDutyAt p W at → IsState p s
       → Grown (C.conversion_cost p.model a ty) s.net one → Reads p.model ty one u (λ v. fit p.model ty (typed p.model a v s.net x))
       → Grown (C.one_cost p.model op ty) one net → C.Gives p.model (C.one_type op ty) net o (λ v. apply_one_of p.model op ty (typed p.model ty v one u))
       → Turned p 4 0 (record s { net = net }) n (λ v. judged p.property at.duty (holds v net o.overflow) (holds v net o.undefined))
-      → Gives p I (operated_one_cost p.model op a) 0 s n (Some (C.one_type op (promote_of a))) o.value.bits (operated_one p I at op a x s)
-  operate_one_gives ty I et d h g1 r1 g2 c z =
-      subst (λ t. Gives p I (4 + (C.conversion_cost p.model a t + C.one_cost p.model op t)) 0 s n (Some (C.one_type op t)) o.value.bits (λ v l. answered p I (where_of at) (one_in t v) l)) et
+      → Gives p W (operated_one_cost p.model op a) 0 s n (Some (C.one_type op (promote_of a))) o.value.bits (operated_one p W at op a x s)
+  operate_one_gives ty W et d h g1 r1 g2 c z =
+      subst (λ t. Gives p W (4 + (C.conversion_cost p.model a t + C.one_cost p.model op t)) 0 s n (Some (C.one_type op t)) o.value.bits (λ v l. answered p W (where_of at) (one_in t v) l)) et
       (let k = C.conversion_cost p.model a ty + C.one_cost p.model op ty in
       let g = grown_then (C.conversion_cost p.model a ty) (C.one_cost p.model op ty) k s.net one net g1 g2 (omega arith) in
-      answer_gives p I at d s n net (C.one_type op ty) o k (one_in ty) h g (gives_as (one_in ty) c (λ v. ap (apply_one_of p.model op ty) (r1.is v))) z)
+      answer_gives p W at d s n net (C.one_type op ty) o k (one_in ty) h g (gives_as (one_in ty) c (λ v. ap (apply_one_of p.model op ty) (r1.is v))) z)
 
 -- where an overflow is the violation
 pub ended_turned : (p : Program) (s t n : Sym) (k : ℕ) (o u : Bit) → p.property ≡ NoOverflow → IsIn s.net u → Turned p 3 0 s t (λ v. failed k (holds v s.net o)) → Turned p 1 0 t n (λ v. stopped (holds v t.net u))

@@ -2,7 +2,7 @@
 --
 -- An operator's circuit gives its value, its overflow and its undefined bit. A run that is here ends where the operator is undefined.
 -- Where an overflow is the violation, a run fails the obligation of its full expression there; else the value wraps.
-use Rattle.std.specs.Prelude.{◌≡◌, ℕ, suc, ◌+◌, Bool, ℤ, List, Option, None}
+use Rattle.std.specs.Prelude.{◌≡◌, ℕ, suc, ◌+◌, Bool, true, ℤ, List, Option}
 use Rattle.c_core.specs.Tree.{Program}
 use Rattle.c_core.specs.Types.{fit, promote_of}
 use Rattle.c_core.specs.Operators.{apply_one_of}
@@ -13,10 +13,12 @@ use Rattle.c_core.specs.declared.number.Spot.{Spot}
 use Rattle.c_core.specs.declared.number.Property.{Property}
 use Rattle.c_core.specs.declared.number.Property.TheVariants.{UnreachCall, NoOverflow}
 use Rattle.c_core.specs.declared.number.DataModel.{DataModel}
-use Rattle.c_meaning.specs.declared.run.DutyKind.TheVariants.{Property as PropertyKind}
+use Rattle.c_meaning.specs.declared.run.Event.TheVariants.{Fail}
+use Rattle.c_meaning.specs.Cells.{Cell}
 use Rattle.c_meaning.specs.Meaning.{Where}
-use Rattle.c_meaning.specs.Havoc.{havoc, answered}
-use Rattle.c_meaning.specs.Duties.{Placed, Duties, duty, number_among}
+use Rattle.sym_meaning.specs.Mode.{Mode}
+use Rattle.sym_meaning.specs.Judged.{judged as meaning, answered}
+use Rattle.c_meaning.specs.Duties.{number_among}
 use Rattle.c_meaning.specs.Eval.{operate}
 use Rattle.circuits.specs.declared.net.Bit.{Bit}
 use Rattle.circuits.specs.Net.{Means}
@@ -54,17 +56,19 @@ operated_cost m op a b = 4 + (conversion_cost m a (type_for m op a b) + (convers
 abbrev pub operated_one_cost : DataModel → UnOp → IntType → ℕ
 operated_one_cost m op a = 4 + (conversion_cost m a (promote_of a) + one_cost m op (promote_of a))
 
--- I: the invariants in witness order
-module _ (p : Program) (I : List Placed) where
-  -- the property's obligation at this full expression has the number that comes after `duty`; beyond the last there is none
-  abbrev pub IsDutyAt : Around → Type 0
-  IsDutyAt at = number_among (duty at.full PropertyKind None) (Duties p I) ≡ suc at.duty
+-- W: the mode
+module _ (p : Program) (W : Mode) where
+  -- each violation in this full expression fails, at the duty of the number that comes after `duty`; beyond the last
+  -- there is none
+  pub record IsDutyAt (at : Around) : Type 0 where
+    pub number : number_among (W.duty_at (where_of at)) W.duties ≡ suc at.duty
+    pub counts : (call : Option Spot) (cells : List Cell) (completed : List Bool) → W.counts (Fail at.statement at.full call) cells completed ≡ true
 
   abbrev pub Gives : ℕ → ℕ → Sym → Sym → Option IntType → List Bit → Deed ℤ → Type 0
-  Gives ands inputs old new ty bits deed = Evaluates (Duties p I) p ands inputs old new ty bits deed
+  Gives ands inputs old new ty bits deed = Evaluates W.duties p ands inputs old new ty bits deed
 
   abbrev pub operated : Around → Spot → BinOp → IntType → List Bit → IntType → List Bit → Sym → Deed ℤ
-  operated at spot op a x b y old v s = operate p (havoc p I) (where_of at) spot op a (typed p.model a v old.net x) b (typed p.model b v old.net y) s
+  operated at spot op a x b y old v s = operate p (meaning p W) (where_of at) spot op a (typed p.model a v old.net x) b (typed p.model b v old.net y) s
 
   abbrev pub operated_one : Around → UnOp → IntType → List Bit → Sym → Deed ℤ
-  operated_one at op a x old v s = answered p I (where_of at) (apply_one_of p.model op (promote_of a) (fit p.model (promote_of a) (typed p.model a v old.net x))) s
+  operated_one at op a x old v s = answered p W (where_of at) (apply_one_of p.model op (promote_of a) (fit p.model (promote_of a) (typed p.model a v old.net x))) s

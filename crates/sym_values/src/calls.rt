@@ -2,7 +2,8 @@
 ghost use Rattle.std.specs.Prelude.{◌<◌, ◌^◌, IfOk, List, Some, length};
 ghost use Rattle.c_core.specs.Types.{width_of};
 ghost use Rattle.c_core.specs.View.{program_view};
-ghost use Rattle.c_meaning.specs.Duties.{Placed};
+ghost use Rattle.c_meaning.specs.Meaning.{Site};
+ghost use Rattle.sym_meaning.specs.Mode.{Mode};
 ghost use Rattle.sym_state.specs.Standing.{IsState};
 ghost use Rattle.sym_values.specs.Valuing.{IsDutyAt, Gives};
 ghost use Rattle.sym_values.specs.Storing.{input_of, reach_of, end_of, Ends};
@@ -24,9 +25,9 @@ pub fn input(
 ) -> Result<Bits, OutOfMemory>
     requires fits { IsState (program_view program.now) sym.old }
     requires room { length sym.old.net < 2 ^ 28 }
-    ensures { IfOk result (λ r. (I : List Placed)
-        → Gives (program_view program.now) I 0 (width_of program.now.model ty) sym.old sym.new (Some ty) r.bits
-        (input_of (program_view program.now) I spot ty)) }
+    ensures { IfOk result (λ r. (W : Mode)
+        → Gives (program_view program.now) W 0 (width_of program.now.model ty) sym.old sym.new (Some ty) r.bits
+        (input_of (program_view program.now) W spot ty)) }
 {
     let bits = draw(alloc, program, sym, DrawKind::Input, spot, ty)?;
     Ok(bits)
@@ -36,8 +37,8 @@ pub fn input(
 pub fn end(sym: &mut Sym, program: &Program) -> Result<(), OutOfMemory>
     requires fits { IsState (program_view program.now) sym.old }
     requires room { length sym.old.net < 2 ^ 27 }
-    ensures { IfOk result (λ r. (I : List Placed)
-        → Ends (program_view program.now) I 1 sym.old sym.new (end_of (program_view program.now) I)) }
+    ensures { IfOk result (λ r. (W : Mode)
+        → Ends (program_view program.now) W 1 sym.old sym.new (end_of (program_view program.now) W)) }
 {
     let always = sym.net.yes();
     stop(sym, program, always)?;
@@ -48,8 +49,8 @@ pub fn end(sym: &mut Sym, program: &Program) -> Result<(), OutOfMemory>
 pub fn reach(sym: &mut Sym, program: &Program, at: Around) -> Result<(), OutOfMemory>
     requires fits { IsState (program_view program.now) sym.old }
     requires room { length sym.old.net < 2 ^ 27 }
-    ensures { IfOk result (λ r. (I : List Placed) → IsDutyAt (program_view program.now) I at
-        → Ends (program_view program.now) I 3 sym.old sym.new (reach_of (program_view program.now) I at)) }
+    ensures { IfOk result (λ r. (W : Mode) (site : Site) → IsDutyAt (program_view program.now) W at
+        → Ends (program_view program.now) W 3 sym.old sym.new (reach_of (program_view program.now) W at site)) }
 {
     let always = sym.net.yes();
     match program.property {

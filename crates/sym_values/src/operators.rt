@@ -3,7 +3,7 @@ ghost use Rattle.std.specs.Prelude.{◌≡◌, ◌+◌, ◌<◌, ◌^◌, IfOk, 
 ghost use Rattle.c_core.specs.Types.{IsPromoted, promote_of};
 ghost use Rattle.c_core.specs.Operators as operators;
 ghost use Rattle.c_core.specs.View.{program_view};
-ghost use Rattle.c_meaning.specs.Duties.{Placed};
+ghost use Rattle.sym_meaning.specs.Mode.{Mode};
 ghost use Rattle.circuits.specs.Net.{holds, IsIn};
 ghost use Rattle.circuits.specs.Numbers.{AreTyped};
 ghost use Rattle.circuits.specs.Outcome.{binary_type, one_type};
@@ -73,10 +73,10 @@ pub fn operate(
     requires x_in { AreTyped program.now.model a sym.old.net x.now.bits }
     requires y_in { AreTyped program.now.model b sym.old.net y.now.bits }
     requires room { length sym.old.net + operated_cost program.now.model op a b < 2 ^ 27 }
-    ensures { IfOk result (λ r. (I : List Placed) → IsDutyAt (program_view program.now) I at
-        → Gives (program_view program.now) I (operated_cost program.now.model op a b) 0 sym.old sym.new
+    ensures { IfOk result (λ r. (W : Mode) → IsDutyAt (program_view program.now) W at
+        → Gives (program_view program.now) W (operated_cost program.now.model op a b) 0 sym.old sym.new
         (Some (binary_type op (operators.type_for program.now.model op a b))) r.bits
-        (operated (program_view program.now) I at spot op a x.now.bits b y.now.bits sym.old)) }
+        (operated (program_view program.now) W at spot op a x.now.bits b y.now.bits sym.old)) }
 {
     let model = program.model;
     let ty = type_for(model, op, a, b);
@@ -101,10 +101,10 @@ pub fn operate_one(
     requires fits { IsState (program_view program.now) sym.old }
     requires x_in { AreTyped program.now.model a sym.old.net x.now.bits }
     requires room { length sym.old.net + operated_one_cost program.now.model op a < 2 ^ 27 }
-    ensures { IfOk result (λ r. (I : List Placed) → IsDutyAt (program_view program.now) I at
-        → Gives (program_view program.now) I (operated_one_cost program.now.model op a) 0 sym.old sym.new
+    ensures { IfOk result (λ r. (W : Mode) → IsDutyAt (program_view program.now) W at
+        → Gives (program_view program.now) W (operated_one_cost program.now.model op a) 0 sym.old sym.new
         (Some (one_type op (promote_of a))) r.bits
-        (operated_one (program_view program.now) I at op a x.now.bits sym.old)) }
+        (operated_one (program_view program.now) W at op a x.now.bits sym.old)) }
 {
     let model = program.model;
     let ty = promote(model, a);

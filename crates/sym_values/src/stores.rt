@@ -1,8 +1,8 @@
 // Stores into scalar objects.
 ghost use Rattle.std.specs.Prelude.{◌≡◌, ◌+◌, ◌<◌, ◌^◌, IfOk, List, Some, length};
 ghost use Rattle.c_core.specs.View.{program_view};
-ghost use Rattle.c_meaning.specs.Duties.{Placed};
 ghost use Rattle.c_meaning.specs.Objects.{type_of_object};
+ghost use Rattle.sym_meaning.specs.Mode.{Mode};
 ghost use Rattle.circuits.specs.Numbers.{AreTyped};
 ghost use Rattle.sym_state.specs.Places.{key};
 ghost use Rattle.sym_state.specs.Standing.{IsState};
@@ -30,9 +30,9 @@ pub fn store(
     requires typed { to ≡ type_of_object (program_view program.now) object }
     requires value_in { AreTyped program.now.model from sym.old.net value.now.bits }
     requires room { length sym.old.net + stored_cost program.now.model from to < 2 ^ 28 }
-    ensures { IfOk result (λ r. (I : List Placed)
-        → Gives (program_view program.now) I (stored_cost program.now.model from to) 0 sym.old sym.new (Some to) r.bits
-        (stored_in (program_view program.now) I (key object 0) from to value.now.bits sym.old)) }
+    ensures { IfOk result (λ r. (W : Mode)
+        → Gives (program_view program.now) W (stored_cost program.now.model from to) 0 sym.old sym.new (Some to) r.bits
+        (stored_in (program_view program.now) W (key object 0) from to value.now.bits sym.old)) }
 {
     let bits = convert(alloc, program, sym, from, to, value)?;
     let here = sym.live;

@@ -113,23 +113,24 @@ module _ (p : Program) where
   one_constant net e = (ap count_ands e, ap count_inputs e)
 
   -- without cells
-  pub bare_state : (net : List NetNode) (here never : Bit) (given : Bits) (failing : Vec Bit Global) (cells : Vec SymCell Global) (sites : Vec DrawSite Global) (n : ℕ) → net ≡ Constant true ∷ [] → Means net here (λ v. true) → Means net never (λ v. false)
-      → Reads p.model Int net given.bits (λ v. pos 0) → failing.items ≡ replicate n never → cells.items ≡ [] → sites.items ≡ []
-      → IsState p (record { net = net; live = here; broken = never; again = never; gave = never; result = Int; given = given; failing = failing; cells = cells; sites = sites })
-  bare_state net here never given failing cells sites n e l m g f c s = record {
+  pub bare_state : (net : List NetNode) (here never : Bit) (given : Bits) (failing completed : Vec Bit Global) (cells : Vec SymCell Global) (sites : Vec DrawSite Global) (n : ℕ) → net ≡ Constant true ∷ [] → Means net here (λ v. true) → Means net never (λ v. false)
+      → Reads p.model Int net given.bits (λ v. pos 0) → failing.items ≡ replicate n never → completed.items ≡ [] → cells.items ≡ [] → sites.items ≡ []
+      → IsState p (record { net = net; live = here; broken = never; again = never; gave = never; result = Int; given = given; failing = failing; completed = completed; cells = cells; sites = sites })
+  bare_state net here never given failing completed cells sites n e l m g f o c s = record {
     live = l.inside;
     broken = m.inside;
     again = m.inside;
     gave = m.inside;
     given = g.bits_in;
     failing = rw f (all_dead net never n m.inside);
+    completed = rw o (All-nil (λ b. IsIn net b));
     cells = rw c (All-nil (IsCell p net));
     sites = rw (s, (one_constant net e).1) refl;
   }
 
-  pub first_is : (s0 s : Sym) (n : ℕ) → s0.net ≡ Constant true ∷ [] → Means s0.net s0.live (λ v. true) → Means s0.net s0.broken (λ v. false) → s0.again ≡ s0.broken → s0.gave ≡ s0.broken → s0.failing.items ≡ replicate n s0.broken → s0.cells.items ≡ [] → s0.sites.items ≡ []
+  pub first_is : (s0 s : Sym) (n : ℕ) → s0.net ≡ Constant true ∷ [] → Means s0.net s0.live (λ v. true) → Means s0.net s0.broken (λ v. false) → s0.again ≡ s0.broken → s0.gave ≡ s0.broken → s0.failing.items ≡ replicate n s0.broken → s0.completed.items ≡ [] → s0.cells.items ≡ [] → s0.sites.items ≡ []
       → Became p 0 s0 s (λ v. with_more (first_cells p)) → IsFirst p n s
-  first_is s0 s n e l m a g f c d x =
+  first_is s0 s n e l m a g f o c d x =
       let none = one_constant s0.net e in
       record {
         fits = x.fits;
@@ -143,6 +144,7 @@ module _ (p : Program) where
           };
           cells = λ v. ap (λ z. z.cells) (x.is v) ∙ ap (λ z. map (cell_at p v s0.net) z ++ first_cells p) c;
           draws = λ v. ap (λ z. z.draws) (x.is v) ∙ ap (draws_at p v s0.net) d;
+          completed = λ v. ap (λ z. z.completed) (x.is v) ∙ ap (map (holds v s0.net)) o;
         };
         no_gates = omega (arith, ap count_ands x.added.is, count_ands-append s0.net x.added.more, none.0, x.added.gates);
         no_inputs = omega (arith, ap count_inputs x.added.is, inputs-append s0.net x.added.more, none.1, x.added.feeds);

@@ -11,7 +11,9 @@ use Rattle.c_meaning.specs.Acts.{Res, Go, Stop, Flow, Next, Broken, Again, Gave}
 use Rattle.c_meaning.specs.Cells.{Cell}
 use Rattle.c_meaning.specs.declared.run.HavocEnd.{HavocEnd}
 use Rattle.c_meaning.specs.declared.run.HavocEnd.TheVariants.{Passed, Dismissed, Failed}
-use Rattle.c_meaning.specs.Havoc.{Stopped, Passes, Dismisses, Fails, Left, end_among, havoc_run}
+use Rattle.c_meaning.specs.Havoc.{Stopped, Passes, Dismisses, Fails, end_among, havoc_run}
+use Rattle.sym_meaning.specs.Mode.{JudgedState}
+use Rattle.sym_meaning.specs.Obliging.{as_havoc}
 use Rattle.c_meaning.specs.Replay.{values_of}
 use Rattle.circuits.specs.declared.net.Bit.{Bit}
 use Rattle.circuits.specs.declared.net.NetNode.{NetNode}
@@ -106,39 +108,39 @@ module _ (p : Program) where
   own_taken v net base top (d ∷ ds) h = own_next (draw_at p v net d) (draws_at p v net ds) (site_kept v net base d h.0) (own_taken v net (base + width_of p.model d.ty) top ds h.1) (holds v net d.live)
 
   module _ (ds : List Duty) (result : Option IntType) where
-    went_draws : (n : ℕ) (c : Stand) (rest : List ℤ) (f : Flow) (t : Left) → Went ds result n c rest (Go f t) → t.draws ≡ c.draws
+    went_draws : (n : ℕ) (c : Stand) (rest : List ℤ) (f : Flow) (t : JudgedState) → Went ds result n c rest (Go f t) → t.draws ≡ c.draws
     went_draws n c rest Next t w = ap (λ z. z.draws) w.1
     went_draws n c rest Broken t w = w.draws
     went_draws n c rest Again t w = w.draws
     went_draws n c rest (Gave z) t w = w.0.draws
 
-    went_failing : (n : ℕ) (c : Stand) (rest : List ℤ) (f : Flow) (t : Left) → Went ds result n c rest (Go f t) → c.failing ≡ marks 0 (length ds)
+    went_failing : (n : ℕ) (c : Stand) (rest : List ℤ) (f : Flow) (t : JudgedState) → Went ds result n c rest (Go f t) → c.failing ≡ marks 0 (length ds)
     went_failing n c rest Next t w = w.0.failing
     went_failing n c rest Broken t w = w.failing
     went_failing n c rest Again t w = w.failing
     went_failing n c rest (Gave z) t w = w.0.failing
 
-    went_many : (n : ℕ) (c : Stand) (rest : List ℤ) (r : Res Stopped Left Flow) → Went ds result n c rest r → length c.failing ≡ length ds
+    went_many : (n : ℕ) (c : Stand) (rest : List ℤ) (r : Res Stopped JudgedState Flow) → Went ds result n c rest r → length c.failing ≡ length ds
     went_many n c rest (Go f t) w = ap length (went_failing n c rest f t w) ∙ marks_many 0 (length ds)
     went_many n c rest (Stop e t) w = ap length w.0.failing ∙ marks_many (number_of_end ds e) (length ds)
 
-    tells : (n : ℕ) (s : Sym) (v : ℕ → Bool) (rest : List ℤ) (r : Res Stopped Left Flow) → Went ds result n (stand p v s) rest r → Tells p s v (havoc_run ds r)
+    tells : (n : ℕ) (s : Sym) (v : ℕ → Bool) (rest : List ℤ) (r : Res Stopped JudgedState Flow) → Went ds result n (stand p v s) rest r → Tells p s v (havoc_run ds (as_havoc r))
     tells n s v rest (Go f t) w = record { draws = went_draws n (stand p v s) rest f t w; ends = λ i b e. not_failed (mark_at 0 (length ds) i (holds v s.net b) (bit_at v s.net s.failing.items (marks 0 (length ds)) i b (went_failing n (stand p v s) rest f t w) e)) }
     tells n s v rest (Stop e t) w = record { draws = w.2; ends = λ i b q. stop_ends ds e i (mark_at (number_of_end ds e) (length ds) i (holds v s.net b) (bit_at v s.net s.failing.items (marks (number_of_end ds e) (length ds)) i b w.0.failing q)) }
 
-    module _ {i j : ℕ} (a b : Sym) (start : List Cell) (run : Left → Res Stopped Left Flow) (x : Runs ds p result i j a b (λ v. run)) (first : IsStart ds p start a) where
+    module _ {i j : ℕ} (a b : Sym) (start : List Cell) (before : List Bool) (run : JudgedState → Res Stopped JudgedState Flow) (x : Runs ds p result i j a b (λ v. run)) (first : IsStart ds p start before a) where
       -- under inputs, on any list that gives these draws
       went : (v : ℕ → Bool) (w rest : List ℤ) → Taken p.model (stand p v b).draws w rest → Went ds result (length a.cells.items) (stand p v b) rest (run (left_of (stand p v a) w))
       went v w rest t =
           let all : (stand p v b).draws ≡ (x.moves v).more = (x.moves v).draws ∙ ap (λ z. z ++ (x.moves v).more) (first.draws v) in
           x.does v (first.here v) w rest (subst (λ z. Taken p.model z w rest) all t)
 
-      told : (v : ℕ → Bool) (w rest : List ℤ) → Taken p.model (stand p v b).draws w rest → Tells p b v (havoc_run ds (run (started start w)))
+      told : (v : ℕ → Bool) (w rest : List ℤ) → Taken p.model (stand p v b).draws w rest → Tells p b v (havoc_run ds (as_havoc (run (started start before w))))
       told v w rest t =
-          subst (λ l. Tells p b v (havoc_run ds (run l))) (λ k. record { cells = first.cells v k; values = w; draws = first.draws v k })
+          subst (λ l. Tells p b v (havoc_run ds (as_havoc (run l)))) (λ k. record { cells = first.cells v k; values = w; draws = first.draws v k; completed = first.completed v k })
           (tells (length a.cells.items) b v rest (run (left_of (stand p v a) w)) (went v w rest t))
 
-      pub decides : IsNet b.net → Decides ds p start b run
+      pub decides : IsNet b.net → Decides ds p start before b run
       decides fine = record {
         many =
             let v : ℕ → Bool = λ k. false in

@@ -149,6 +149,7 @@ pub fn start(alloc: Global, program: &Program, duties: u32) -> Result<Sym, OutOf
         result: IntType::Int,
         given,
         failing,
+        completed: Vec::new(alloc),
         cells: Vec::new(alloc),
         sites: Vec::new(alloc),
     };

@@ -1,11 +1,12 @@
 // Laws on states: they are said, and nothing is done.
-ghost use Rattle.std.specs.Prelude.{ℕ, List, ℤ, Option};
+ghost use Rattle.std.specs.Prelude.{ℕ, Bool, List, ℤ, Option};
 ghost use Rattle.c_core.specs.View.{program_view};
 ghost use Rattle.c_core.specs.declared.number.IntType.{IntType as NumberType};
 ghost use Rattle.c_meaning.specs.declared.run.Duty.{Duty};
 ghost use Rattle.c_meaning.specs.Acts.{Res, Flow};
 ghost use Rattle.c_meaning.specs.Cells.{Cell};
-ghost use Rattle.c_meaning.specs.Havoc.{Stopped, Left};
+ghost use Rattle.c_meaning.specs.Havoc.{Stopped};
+ghost use Rattle.sym_meaning.specs.Mode.{JudgedState, Mode};
 ghost use Rattle.sym_flow.specs.Leaving.{Runs};
 ghost use Rattle.sym_state.specs.Following.{Deed};
 ghost use Rattle.sym_state.specs.Standing.{IsState};
@@ -25,10 +26,10 @@ pub fn found(program: &Program, sym: &Sym)
 
 /// A state after a program decides its havoc runs: where they end, and what they draw.
 pub fn decides(program: &Program, first: &Sym, last: &Sym)
-    ensures { (ds : List Duty) (result_type : Option NumberType) (ands inputs : ℕ) (start : List Cell)
-        (run : Left → Res Stopped Left Flow) → IsStart ds (program_view program.now) start first.now
+    ensures { (ds : List Duty) (result_type : Option NumberType) (ands inputs : ℕ) (start : List Cell) (before : List Bool)
+        (run : JudgedState → Res Stopped JudgedState Flow) → IsStart ds (program_view program.now) start before first.now
         → Runs ds (program_view program.now) result_type ands inputs first.now last.now (λ v. run)
-        → Decides ds (program_view program.now) start last.now run }
+        → Decides ds (program_view program.now) start before last.now run }
 {
     let _nodes = last.net.nodes();
 }

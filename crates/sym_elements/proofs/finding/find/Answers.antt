@@ -9,7 +9,7 @@ pub end_outside-requires-clause-fits : goal.end_outside-requires-clause-fits
 end_outside-requires-clause-fits c = state_grown (program_view c.args.program.now) c.in_ok-places.ensures.grown c.requires.fits
 
 pub returns : goal.returns
-returns c I =
-    finds (program_view c.args.program.now) I c.args.object (found_cost (program_view c.args.program.now) c.args.ty c.args.object) c.requires.fits
+returns c W =
+    finds (program_view c.args.program.now) W c.args.object (found_cost (program_view c.args.program.now) c.args.ty c.args.object) c.requires.fits
     (index_found (program_view c.args.program.now) c.args.sym.now c.yes-yes.ensures c.args.object c.args.ty c.args.index.now.bits c.requires.index_in (rw (c.as_slice.ensures, c.size_of_object-count.ensures) at c.in_ok-places.ensures)) (omega arith)
     (rw c.as_slice-2.ensures at c.in_ok-end_outside.ensures) (omega (arith, c.requires.index_in.wide))

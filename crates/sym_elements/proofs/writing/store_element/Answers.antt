@@ -6,6 +6,6 @@ pub write_element-requires-clause-places_of : goal.write_element-requires-clause
 write_element-requires-clause-places_of c = places_reckoned (program_view c.args.program.now) c.args.object c.requires.places_of c.in_ok-bits.ensures
 
 pub returns : goal.returns
-returns c I =
-    element_stores (program_view c.args.program.now) c.args.object c.args.places.now.bits c.args.value.now.bits I c.args.from c.args.to c.requires.typed c.requires.places_of.inside c.in_ok-bits.ensures
+returns c W =
+    element_stores (program_view c.args.program.now) c.args.object c.args.places.now.bits c.args.value.now.bits W c.args.from c.args.to c.requires.typed c.requires.places_of.inside c.in_ok-bits.ensures
     c.in_ok-write_element.ensures

@@ -1,4 +1,4 @@
-use Rattle.std.proofs.Common.{rules, ◌≡◌, ◌∙◌, refl, sym, ap, subst, arith}
+use Rattle.std.proofs.Common.{rules, [], suc, length, sym, subst, arith}
 use Rattle.std.specs.List.{All}
 use Rattle.c_core.specs.View.{program_view}
 use Rattle.c_meaning.specs.Placing.{placed_view}
@@ -15,4 +15,4 @@ returns c =
     let p = program_view c.args.program.now in
     let whole = subst (λ xs. IsWhole p (placed_view xs) c.in_ok-sym.sym) c.as_slice.ensures c.in_ok-sym.ensures in
     let stand = subst (All (StandsFor p)) c.as_slice-3.ensures.value c.in_ok-test_sites.ensures in
-    are_made p (placed_view c.args.invariants.now) c.in_ok-sym.sym _ _ _ whole c.requires.light (search rules) (search rules) (search rules) stand
+    are_made p (placed_view c.args.invariants.now) c.in_ok-sym.sym _ _ _ (λ w. c.havoc_runs_are_judged.ensures p (placed_view c.args.invariants.now) (suc (length p.functions)) w []) whole c.requires.light (search rules) (search rules) (search rules) stand

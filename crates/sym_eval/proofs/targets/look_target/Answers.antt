@@ -1,4 +1,4 @@
-use Rattle.std.proofs.Common.{◌≡◌, ◌∙◌, ◌+◌, ◌<◌, ◌^◌, sym, ap, subst, arith, Some, length}
+use Rattle.std.proofs.Common.{◌∙◌, ◌+◌, ◌<◌, ◌^◌, sym, ap, subst, arith, Some, length}
 use Rattle.c_core.specs.View.{program_view}
 use Rattle.c_meaning.specs.Objects.{type_of_object}
 use Rattle.sym_values.specs.Valuing.{Gives}
@@ -20,13 +20,13 @@ pub read_element-requires-clause-room : goal.read_element-requires-clause-room
 read_element-requires-clause-room c = subst (λ t. length c.args.sym.now.net + reading (program_view c.args.program.now) t < 2 ^ 28) c.in-Element.is c.requires.room
 
 pub returns-in_ok-r-in-Scalar : goal.returns-in_ok-r-in-Scalar
-returns-in_ok-r-in-Scalar c I =
+returns-in_ok-r-in-Scalar c W =
     let p = program_view c.args.program.now in
     let s = c.args.sym.now in
-    subst (λ t. Gives p I (reading p t) 0 s s (Some c.args.ty) c.in_ok-r-in-Scalar.r.bits (looked_at p I (keys_of t s.net))) (sym c.in-Scalar.is) (look_scalar p I s c.in-Scalar.object c.args.ty c.in_ok-r-in-Scalar.r.bits c.requires.fits c.in_ok-r-in-Scalar.ensures)
+    subst (λ t. Gives p W (reading p t) 0 s s (Some c.args.ty) c.in_ok-r-in-Scalar.r.bits (looked_at p W (keys_of t s.net))) (sym c.in-Scalar.is) (look_scalar p W s c.in-Scalar.object c.args.ty c.in_ok-r-in-Scalar.r.bits c.requires.fits c.in_ok-r-in-Scalar.ensures)
 
 pub returns-in_ok-r-in-Element : goal.returns-in_ok-r-in-Element
-returns-in_ok-r-in-Element c I =
+returns-in_ok-r-in-Element c W =
     let p = program_view c.args.program.now in
     let s = c.args.sym.now in
-    subst (λ t. Gives p I (reading p t) 0 s c.read_element.new.sym (Some c.args.ty) c.in_ok-r-in-Element.r.bits (looked_at p I (keys_of t s.net))) (sym c.in-Element.is) (c.in_ok-r-in-Element.ensures I)
+    subst (λ t. Gives p W (reading p t) 0 s c.read_element.new.sym (Some c.args.ty) c.in_ok-r-in-Element.r.bits (looked_at p W (keys_of t s.net))) (sym c.in-Element.is) (c.in_ok-r-in-Element.ensures W)

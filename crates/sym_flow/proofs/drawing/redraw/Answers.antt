@@ -1,7 +1,7 @@
 use Rattle.std.proofs.Common.{◌*◌, [], get_or, arith, refl, subst}
 use Rattle.std.proofs.lemmas.List.{take_all}
 use Rattle.c_core.specs.View.{program_view}
-use Rattle.c_meaning.specs.Havoc.{redraw}
+use Rattle.sym_meaning.specs.Obliging.{redraw}
 use Rattle.sym_state.specs.Following.{Follows}
 use Rattle.sym_state.proofs.Nets.{longer_by}
 use Rattle.sym_flow.specs.Drawing.{bits_of_objects}

@@ -2,7 +2,7 @@ use Rattle.std.proofs.Common.{◌*◌, List, take}
 use Rattle.c_core.specs.View.{program_view}
 use Rattle.c_meaning.specs.declared.run.Duty.{Duty}
 use Rattle.c_meaning.specs.Duties.{Placed}
-use Rattle.c_meaning.specs.Havoc.{redraw}
+use Rattle.sym_meaning.specs.Obliging.{redraw}
 use Rattle.sym_state.specs.Following.{Follows}
 use Rattle.sym_flow.specs.Drawing.{bits_of_objects}
 use Rattle.sym_flow.proofs.drawing.redraw.Given as goal

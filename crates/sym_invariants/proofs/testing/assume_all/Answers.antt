@@ -22,20 +22,20 @@ loop-x-init c =
 
 pub assume_one-requires-clause-good : goal.assume_one-requires-clause-good
 assume_one-requires-clause-good c =
-    invariant_at (program_of c.args.walk.now) c.args.walk.now.invariants.now c.loop-x.x-index c.x-item.result c.loop-x-test.true c.x-item.is c.requires.walk.invariants
+    invariant_at (program_of c.args.walk.now) c.args.walk.now.mode.invariants.now c.loop-x.x-index c.x-item.result c.loop-x-test.true c.x-item.is c.requires.walk.invariants
 
 pub assume_one-requires-clause-room : goal.assume_one-requires-clause-room
 assume_one-requires-clause-room c =
-    omega (arith, c.requires.room, (longer_by c.loop-x.invariant.added).1, weight_within (program_of c.args.walk.now) true c.args.spot c.args.walk.now.invariants.now c.loop-x.x-index c.x-item.result c.loop-x-test.true c.x-item.is)
+    omega (arith, c.requires.room, (longer_by c.loop-x.invariant.added).1, weight_within (program_of c.args.walk.now) true c.args.spot c.args.walk.now.mode.invariants.now c.loop-x.x-index c.x-item.result c.loop-x-test.true c.x-item.is)
 
 pub loop-x-preserved : goal.loop-x-preserved
 loop-x-preserved c =
     let w = c.args.walk.now in
     let p = program_of w in
     let I = invariants_of w in
-    more_assumed p I (Duties p I) c.args.spot w.invariants.now c.loop-x.x-index c.x-item.result c.args.sym.now c.loop-x.sym c.assume_one.new.sym c.loop-x-test.true c.x-item.is c.loop-x.invariant c.in_ok-assume_one.ensures
+    more_assumed p I (Duties p I) c.args.spot w.mode.invariants.now c.loop-x.x-index c.x-item.result c.args.sym.now c.loop-x.sym c.assume_one.new.sym c.loop-x-test.true c.x-item.is c.loop-x.invariant c.in_ok-assume_one.ensures
 
 pub returns : goal.returns
 returns c =
     let w = c.args.walk.now in
-    subst (λ z. Assumes w (placed_view z) c.args.spot c.args.sym.now c.loop-x.sym) (take_all c.loop-x.x-index w.invariants.now (omega (arith, c.loop-x-test.false))) c.loop-x.invariant
+    subst (λ z. Assumes w (placed_view z) c.args.spot c.args.sym.now c.loop-x.sym) (take_all c.loop-x.x-index w.mode.invariants.now (omega (arith, c.loop-x-test.false))) c.loop-x.invariant

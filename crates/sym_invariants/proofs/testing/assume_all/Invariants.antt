@@ -5,4 +5,4 @@ use Rattle.sym_invariants.proofs.testing.assume_all.Given as goal
 
 -- those before the index are assumed
 abbrev pub invariant-loop-x : goal.invariant-loop-x
-invariant-loop-x l = Assumes l.walk (placed_view (take l.x-index l.walk.invariants.now)) l.spot l.initial.sym l.sym
+invariant-loop-x l = Assumes l.walk (placed_view (take l.x-index l.walk.mode.invariants.now)) l.spot l.initial.sym l.sym

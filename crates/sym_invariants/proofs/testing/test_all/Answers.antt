@@ -22,16 +22,16 @@ loop-x-init c =
 
 pub test_one-requires-clause-good : goal.test_one-requires-clause-good
 test_one-requires-clause-good c =
-    invariant_at (program_of c.args.walk.now) c.args.walk.now.invariants.now c.loop-x.x-index c.x-item.result c.loop-x-test.true c.x-item.is c.requires.walk.invariants
+    invariant_at (program_of c.args.walk.now) c.args.walk.now.mode.invariants.now c.loop-x.x-index c.x-item.result c.loop-x-test.true c.x-item.is c.requires.walk.invariants
 
 pub test_one-requires-clause-room : goal.test_one-requires-clause-room
 test_one-requires-clause-room c =
-    omega (arith, c.requires.room, (longer_by c.loop-x.invariant.1.added).1, weight_within (program_of c.args.walk.now) c.args.at_loop c.args.spot c.args.walk.now.invariants.now c.loop-x.x-index c.x-item.result c.loop-x-test.true c.x-item.is)
+    omega (arith, c.requires.room, (longer_by c.loop-x.invariant.1.added).1, weight_within (program_of c.args.walk.now) c.args.at_loop c.args.spot c.args.walk.now.mode.invariants.now c.loop-x.x-index c.x-item.result c.loop-x-test.true c.x-item.is)
 
 pub overflow_add-number : goal.overflow_add-number
 overflow_add-number c =
     let w = c.args.walk.now in
-    let few : length w.invariants.now ≤ length w.duties.now = omega (arith, few_invariants (program_of w) (invariants_of w), ap length c.requires.walk.duties, length-map w.invariants.now placed) in
+    let few : length w.mode.invariants.now ≤ length w.mode.duties.now = omega (arith, few_invariants (program_of w) (invariants_of w), ap length c.requires.walk.duties, length-map w.mode.invariants.now placed) in
     omega (arith, few, c.requires.walk.numbered, c.loop-x.invariant.0, c.loop-x-test.true)
 
 pub loop-x-preserved : goal.loop-x-preserved
@@ -41,10 +41,10 @@ loop-x-preserved c =
     let I = invariants_of w in
     let one = subst (λ n. Tests w n (placed_view (c.x-item.result ∷ [])) c.args.at_loop c.args.spot c.args.kind c.loop-x.sym c.test_one.new.sym) c.loop-x.invariant.0 c.in_ok-test_one.ensures in (
       omega (arith, c.loop-x.invariant.0),
-      more_tested p I (Duties p I) c.args.at_loop c.args.spot c.args.kind w.invariants.now c.loop-x.x-index c.x-item.result c.args.sym.now c.loop-x.sym c.test_one.new.sym c.loop-x-test.true c.x-item.is c.loop-x.invariant.1 one,
+      more_tested p I (Duties p I) c.args.at_loop c.args.spot c.args.kind w.mode.invariants.now c.loop-x.x-index c.x-item.result c.args.sym.now c.loop-x.sym c.test_one.new.sym c.loop-x-test.true c.x-item.is c.loop-x.invariant.1 one,
     )
 
 pub returns : goal.returns
 returns c =
     let w = c.args.walk.now in
-    subst (λ z. Tests w 0 (placed_view z) c.args.at_loop c.args.spot c.args.kind c.args.sym.now c.loop-x.sym) (take_all c.loop-x.x-index w.invariants.now (omega (arith, c.loop-x-test.false))) c.loop-x.invariant.1
+    subst (λ z. Tests w 0 (placed_view z) c.args.at_loop c.args.spot c.args.kind c.args.sym.now c.loop-x.sym) (take_all c.loop-x.x-index w.mode.invariants.now (omega (arith, c.loop-x-test.false))) c.loop-x.invariant.1

@@ -5,4 +5,4 @@ use Rattle.sym_invariants.proofs.testing.test_all.Given as goal
 
 -- those before the index are tested
 abbrev pub invariant-loop-x : goal.invariant-loop-x
-invariant-loop-x l = (l.number ≡ l.x-index) × Tests l.walk 0 (placed_view (take l.x-index l.walk.invariants.now)) l.at_loop l.spot l.kind l.initial.sym l.sym
+invariant-loop-x l = (l.number ≡ l.x-index) × Tests l.walk 0 (placed_view (take l.x-index l.walk.mode.invariants.now)) l.at_loop l.spot l.kind l.initial.sym l.sym

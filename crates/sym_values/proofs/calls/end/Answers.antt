@@ -3,4 +3,4 @@ use Rattle.sym_values.proofs.Ending.{end_gives}
 use Rattle.sym_values.proofs.calls.end.Goals as goal
 
 pub returns : goal.returns
-returns c I = end_gives (program_view c.args.program.now) I c.args.sym.now c.stop.new.sym c.yes-always.result c.yes-always.ensures c.in_ok-stop.ensures
+returns c W = end_gives (program_view c.args.program.now) W c.args.sym.now c.stop.new.sym c.yes-always.result c.yes-always.ensures c.in_ok-stop.ensures
