@@ -144,7 +144,7 @@ module _ (p : Program) (W : Mode) (n : ℕ) where
         bit_in = in_added ev.added bit d.means.inside;
         follows = follows_then p W.duties (weight_of_control p W n e) (bits_of_control p W n e) (λ v w s. bind (tell p W (Branch at (Truth (not (is_zero w)))) s) (λ u s. Go (not (is_zero w)) s)) g.follows
             (follows_then p W.duties (width_of p.model (type_of e)) 0 (λ v u s. bind (tell p W (Branch at (Truth (T v))) s) (λ u s. Go (T v) s))
-            (net_follows p W.duties {S = λ v u. Unit {0}} (λ v. tt {0}) d.turned (λ v. tt {0})) told
+            (net_follows p W.duties {A = Unit {0}} {S = λ v u. Unit {0}} (λ v. tt) d.turned (λ v. tt)) told
             (λ v u q s. ap (λ t. bind (tell p W (Branch at (Truth t)) s) (λ u s. Go t s)) (sym (d.means.is v))) (omega (arith, cost)) (omega arith))
             (λ v w q s. ap (λ w. bind (tell p W (Branch at (Truth (not (is_zero w)))) s) (λ u s. Go (not (is_zero w)) s)) (subst (λ t. IsNumber p.model t x.net bits v w) one q)) (omega arith) (omega arith);
       }

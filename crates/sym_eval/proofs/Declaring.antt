@@ -82,7 +82,7 @@ module _ (p : Program) (W : Mode) (n : ℕ) where
 
           pub stored_does : InitialsDo p W n at o i (MoreExp e NoExp) s c
           stored_does =
-              initials_next p W W.duties None (calls p W n) (weight_of_initials p W n o (MoreExp e NoExp)) (bits_of_initials p W n o (MoreExp e NoExp)) at o i e NoExp
+              initials_next p W W.duties None (calls p W n) true (weight_of_initials p W n o (MoreExp e NoExp)) (bits_of_initials p W n o (MoreExp e NoExp)) at o i e NoExp
               (λ v. fit p.model (type_of_object p o) (typed p.model (type_of e) v a.net xs)) x.follows
               (λ v z q. ap (fit p.model (type_of_object p o)) (number_as p W n a xs e (type_of e) stored_type v z q))
               (stored_follows p W.duties (key o i) (λ v. fit p.model (type_of_object p o) (typed p.model (type_of e) v a.net xs)) a c both_turned) (nothing_follows p W.duties c w.fits)

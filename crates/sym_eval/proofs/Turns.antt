@@ -182,7 +182,7 @@ module _ (p : Program) (W : Mode) (n : ℕ) (gives : Option IntType) where
       → Became p 0 c d (λ v. cut_to cells) → ForDoes p W n gives at i l a d
   for_does {a = a} at i l cells h y z en w =
       let whole = runs_then p W.duties gives (loop_glue + (weight_of_first p W n i + weight_of_loop p W n gives at l)) (bits_of_first p W n i + bits_of_loop p W n gives at l) (y gives) z (omega arith) (omega arith) in
-      scoped_runs p W.duties gives h.fits (runs_as p W.duties gives whole (λ v s. first_then p W n at i (looped p W n gives at l) s) (omega arith) (omega arith))
+      scoped_runs p W.duties gives h.fits (runs_as p W.duties gives whole (λ v s. first_then p W n at i (λ may. looped p W n gives at l) s) (omega arith) (omega arith))
       (became_as (λ v. cut_to (length a.cells.items)) w (λ v s. ap (λ k. cut_to k s) en))
 
   -- ---- what is typed of a statement that is a loop

@@ -1,8 +1,8 @@
 // Targets of assignments and steps: what a cell holds is read, and a value is stored in it.
-ghost use Rattle.std.specs.Prelude.{◌≡◌, ◌+◌, ◌<◌, ◌^◌, IfOk, List, Some, length};
+ghost use Rattle.std.specs.Prelude.{◌≡◌, ◌+◌, ◌<◌, ◌^◌, IfOk, Some, length};
 ghost use Rattle.c_core.specs.View.{program_view};
-ghost use Rattle.c_meaning.specs.Duties.{Placed};
 ghost use Rattle.c_meaning.specs.Objects.{type_of_object};
+ghost use Rattle.sym_meaning.specs.Mode.{Mode};
 ghost use Rattle.circuits.specs.Numbers.{AreTyped};
 ghost use Rattle.sym_state.specs.Standing.{IsState};
 ghost use Rattle.sym_values.specs.Valuing.{Gives};
@@ -37,9 +37,9 @@ pub fn look_target(
     requires typed { ty ≡ type_of_object (program_view program.now) (object_of target.now) }
     requires is { IsTarget (program_view program.now) sym.old target.now }
     requires room { length sym.old.net + reading (program_view program.now) target.now < 2 ^ 28 }
-    ensures { IfOk result (λ r. (I : List Placed)
-        → Gives (program_view program.now) I (reading (program_view program.now) target.now) 0 sym.old sym.new (Some ty)
-        r.bits (looked_at (program_view program.now) I (keys_of target.now sym.old.net))) }
+    ensures { IfOk result (λ r. (W : Mode)
+        → Gives (program_view program.now) W (reading (program_view program.now) target.now) 0 sym.old sym.new (Some ty)
+        r.bits (looked_at (program_view program.now) W (keys_of target.now sym.old.net))) }
 {
     match target {
         Target::Scalar(object) => {
@@ -69,9 +69,9 @@ pub fn store_target(
     requires is { IsTarget (program_view program.now) sym.old target.now }
     requires value_in { AreTyped program.now.model from sym.old.net value.now.bits }
     requires room { length sym.old.net + storing (program_view program.now) from target.now < 2 ^ 28 }
-    ensures { IfOk result (λ r. (I : List Placed)
-        → Gives (program_view program.now) I (storing (program_view program.now) from target.now) 0 sym.old sym.new
-        (Some to) r.bits (stored_at (program_view program.now) I (keys_of target.now sym.old.net) from to value.now.bits
+    ensures { IfOk result (λ r. (W : Mode)
+        → Gives (program_view program.now) W (storing (program_view program.now) from target.now) 0 sym.old sym.new
+        (Some to) r.bits (stored_at (program_view program.now) W (keys_of target.now sym.old.net) from to value.now.bits
         sym.old)) }
 {
     match target {

@@ -168,7 +168,7 @@ module _ (p : Program) (W : Mode) (gives : Option IntType) (site : Site) (void :
   return_after (Stop e s) = refl
 
   -- the body in a scope, its event, and its value
-  pub returned_follows : {i j k l : ℕ} {a d e f : Sym} {body : Deed Flow} (m : ℕ) (gave : (ℕ → Bool) → Bool) (z : (ℕ → Bool) → ℤ)
+  pub returned_follows : {i j k : ℕ} {a d e f : Sym} {body : Deed Flow} (m : ℕ) (gave : (ℕ → Bool) → Bool) (z : (ℕ → Bool) → ℤ)
       → Follows W.duties p i j a d (λ v o. o ≡ value_given gives (gave v) (z v)) (λ v s. bind (scoped Stopped JudgedState cells_judged with_cells_judged (body v) s) (λ flow s. Go (given flow) s))
       → Turned p k 0 d e (λ v. telling W (Return site.close (value_given gives (gave v) (z v)))) → Turned p 1 0 e f (λ v. stopped (site.needed && not (gave v))) → i + (k + 1) ≤ m
       → Follows W.duties p m j a f (λ v. is_value site.needed (z v)) (λ v s. bind (scoped Stopped JudgedState cells_judged with_cells_judged (body v) s) (λ flow. returned p W site (given flow)))
