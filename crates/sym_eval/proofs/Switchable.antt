@@ -38,6 +38,7 @@ use Rattle.circuits.specs.Numbers.{typed, AreIn, AreTyped}
 use Rattle.circuits.specs.Outcome.{conversion_cost}
 use Rattle.sym_state.specs.declared.state.Sym.{Sym}
 use Rattle.sym_state.specs.Standing.{Stand, stand, IsState, Turned, with_live}
+use Rattle.sym_state.specs.Following.{Follows}
 use Rattle.sym_state.proofs.Composed.{follows_then, net_follows}
 use Rattle.sym_choices.proofs.Labels.{label_of, labels_are, arms_more}
 use Rattle.sym_state.proofs.Nets.{in_added, holds_added, all_added, longer_by}

@@ -6,7 +6,7 @@ ghost use Rattle.c_meaning.specs.declared.run.Duty.{Duty};
 ghost use Rattle.c_meaning.specs.Acts.{Res, Flow};
 ghost use Rattle.c_meaning.specs.Cells.{Cell};
 ghost use Rattle.c_meaning.specs.Havoc.{Stopped};
-ghost use Rattle.sym_meaning.specs.Mode.{JudgedState, Mode};
+ghost use Rattle.sym_meaning.specs.Mode.{JudgedState};
 ghost use Rattle.sym_flow.specs.Leaving.{Runs};
 ghost use Rattle.sym_state.specs.Following.{Deed};
 ghost use Rattle.sym_state.specs.Standing.{IsState};
