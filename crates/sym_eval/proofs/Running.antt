@@ -96,6 +96,6 @@ module _ (p : Program) (W : Mode) (n : ℕ) (needed : Bool) (result : Option Int
               bits_in = are_typed_added y1.added bits_in;
               follows = λ site en.
                   let end : Turned p 1 0 g m (λ v. stopped (site.needed && not (holds v g.net gave))) = subst (λ b. Turned p 1 0 g m (λ v. stopped (b && not (holds v g.net gave)))) (sym en) y1 in
-                  let done = returned_follows p W result site (λ q. en ∙ h.void q) (weight_of_run p W n fn xs) (λ v. holds v g.net gave) value back (ev site.close (λ v. value_given result (holds v g.net gave) (value v))) end (omega arith) in
+                  let done = returned_follows p W result site (λ q. en ∙ h.void q) (λ v. with_params p (judged p W) params (values_at p v a.net xs) (run_in p (judged p W) (suc n) fn) true) (weight_of_run p W n fn xs) (λ v. holds v g.net gave) value back (ev site.close (λ v. value_given result (holds v g.net gave) (value v))) end (omega arith) in
                   follows_as p W.duties done (λ v o q. subst (λ b. is_value b (typed p.model (type_or_int result) v m.net bits) o) en (subst (λ t. is_value site.needed t o) (sym (typed_added y1.added p.model (type_or_int result) v bits bits_in)) q)) (λ v s. refl) (omega arith) (omega arith);
             }

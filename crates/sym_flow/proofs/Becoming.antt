@@ -123,7 +123,8 @@ module _ (p : Program) where
         cells_in = (state_grown p g h).cells;
         cells_are = still_cells s net h g;
         failing = λ v. refl;
-        draws = λ v. refl; completed = λ v. refl;
+        draws = λ v. refl;
+        completed = λ v. refl;
       })
 
   pub giving_became : (s n : Sym) (net : List NetNode) (ty : IntType) (value : List Bit) (given : Bits) → IsState p s → s.result ≡ ty → AreTyped p.model ty s.net value → Grown (4 * length value) s.net net

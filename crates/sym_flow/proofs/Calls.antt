@@ -168,11 +168,11 @@ module _ (p : Program) (W : Mode) (gives : Option IntType) (site : Site) (void :
   return_after (Stop e s) = refl
 
   -- the body in a scope, its event, and its value
-  pub returned_follows : {i j k : ℕ} {a d e f : Sym} {body : Deed Flow} (m : ℕ) (gave : (ℕ → Bool) → Bool) (z : (ℕ → Bool) → ℤ)
+  pub returned_follows : {i j k : ℕ} {a d e f : Sym} (body : Deed Flow) (m : ℕ) (gave : (ℕ → Bool) → Bool) (z : (ℕ → Bool) → ℤ)
       → Follows W.duties p i j a d (λ v o. o ≡ value_given gives (gave v) (z v)) (λ v s. bind (scoped Stopped JudgedState cells_judged with_cells_judged (body v) s) (λ flow s. Go (given flow) s))
       → Turned p k 0 d e (λ v. telling W (Return site.close (value_given gives (gave v) (z v)))) → Turned p 1 0 e f (λ v. stopped (site.needed && not (gave v))) → i + (k + 1) ≤ m
       → Follows W.duties p m j a f (λ v. is_value site.needed (z v)) (λ v s. bind (scoped Stopped JudgedState cells_judged with_cells_judged (body v) s) (λ flow. returned p W site (given flow)))
-  returned_follows {j = j} {k = k} {body = body} m gave z x y w le =
+  returned_follows {j = j} {k = k} body m gave z x y w le =
       let rest = follows_then p W.duties (k + 1) 0 (λ v u. after_return site.needed (value_given gives (gave v) (z v))) (told_follows p W (λ v. Return site.close (value_given gives (gave v) (z v))) y) (value_follows gave z w) (λ v u t s. refl) (omega arith) (omega arith) in
       follows_as p W.duties (follows_then p W.duties m j (λ v o. returned p W site o) x rest (λ v o q s. ap (λ t. returned p W site t s) q ∙ sym (is_returned (value_given gives (gave v) (z v)) s)) le (omega arith))
       (λ v u q. q) (λ v s. return_after (scoped Stopped JudgedState cells_judged with_cells_judged (body v) s)) (omega arith) (omega arith)

@@ -63,7 +63,8 @@ module _ (p : Program) where
             let new : cell_at p v s.net c ≡ record { key = record { object = o; index = i }; value = z } =
             λ j. record { key = record { object = eo j; index = ei j }; value = (ap (λ t. typed p.model t v s.net c.bits.bits) (sym own_ty) ∙ r.is v) j } in
             ap (map (cell_at p v s.net)) e ∙ map_snoc (cell_at p v s.net) s.cells.items c ∙ ap (λ z. map (cell_at p v s.net) s.cells.items ++ z ∷ []) new;
-        failing = λ v. refl; completed = λ v. refl;
+        failing = λ v. refl;
+        completed = λ v. refl;
         draws = λ v. refl;
       })
 

@@ -82,13 +82,13 @@ around_at p v s r = record (stand p v s) {
   given = typed p.model r.result v s.net r.given.bits;
 }
 
--- from the body's end to after the call, around which were n cells; the bits are what the function gave, where it gave it
-pub record CameBack (p : Program) (r : Caller) (n : ℕ) (old new : Sym) (bits : List Bit) (gave : Bit) : Type 0 where
+-- from the body's end to after the call, around which were n cells; the bits are what the function gave, where the bit is true
+pub record CameBack (p : Program) (r : Caller) (n : ℕ) (old new : Sym) (bits : List Bit) (bit : Bit) : Type 0 where
   pub fits : IsState p new
   pub added : Added 3 0 old.net new.net
   pub result : new.result ≡ r.result
   pub is : (v : ℕ → Bool) → stand p v new ≡ behind_call (around_at p v old r) n (stand p v old)
   pub bits_in : AreTyped p.model old.result new.net bits
   pub value : (v : ℕ → Bool) → typed p.model old.result v new.net bits ≡ (stand p v old).given
-  pub gave_in : IsIn new.net gave
-  pub gave : (v : ℕ → Bool) → holds v new.net gave ≡ (stand p v old).gave
+  pub gave_in : IsIn new.net bit
+  pub gave : (v : ℕ → Bool) → holds v new.net bit ≡ (stand p v old).gave

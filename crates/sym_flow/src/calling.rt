@@ -59,7 +59,13 @@ pub struct Given {
 }
 
 // The runs that came to the end of a function's body, and those on their way out of it.
-fn all_ways(net: &mut Net, live: Bit, broken: Bit, again: Bit, gave: Bit) -> Result<Bit, OutOfMemory>
+fn all_ways(
+    net: &mut Net,
+    live: Bit,
+    broken: Bit,
+    again: Bit,
+    gave: Bit,
+) -> Result<Bit, OutOfMemory>
     requires live_in { IsIn net.old live }
     requires broken_in { IsIn net.old broken }
     requires again_in { IsIn net.old again }
