@@ -1,5 +1,5 @@
 -- Events, one after another with parts that give values.
-use Rattle.std.proofs.Common.{◌≡◌, ℕ, Bool, true, false, cond, ℤ, List, refl, sym, ap, arith}
+use Rattle.std.proofs.Common.{◌≡◌, ℕ, Bool, true, false, cond, ℤ, List, refl, sym, ap}
 use Rattle.c_core.specs.Tree.{Program}
 use Rattle.c_meaning.specs.declared.run.Event.{Event}
 use Rattle.c_meaning.specs.Cells.{Cell}
@@ -23,8 +23,7 @@ module _ (p : Program) (W : Mode) where
   told_follows {a = a} e x =
       turned_follows p W.duties (λ v. telling W (e v)) x (λ v. refl) (λ v d. untold (e v) (stand p v a) d)
       (λ v here rest.
-      let s = stand p v a in
-      (
+      let s = stand p v a in (
         record { live = here.live; broken = here.broken; again = here.again; gave = here.gave; failing = here.failing },
         (λ i. record { cells = s.cells; values = rest; draws = s.draws; completed = ap (λ l. cond l (W.next (e v) s.cells s.completed) s.completed) (sym here.live) i }),
         tt,
