@@ -20,6 +20,7 @@ example_judged_runs = record {
   last_test = refl;
   assumed = refl;
   never_assumed = refl;
+  told_once = refl;
   entered = refl;
   returned = refl;
   not_returned = refl;
