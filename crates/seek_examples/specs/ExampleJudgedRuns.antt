@@ -12,11 +12,11 @@ use Rattle.c_meaning.specs.Duties.{duty, same_duty, number_among}
 use Rattle.c_meaning.specs.Examples.{at, drawn, number, branch_on_input, combine_inputs, count_to_three, recurse}
 use Rattle.c_meaning.specs.Havoc.{Stopped, Passes, Fails}
 use Rattle.way_match.specs.Points.{Enter, Branch, BoundSegment}
-use Rattle.way_examples.specs.ExampleVerdicts.{follow, avoid_then, target, returns, inside, error_behind, first_is}
+use Rattle.way_examples.specs.ExampleVerdicts.{follow, target, returns, inside, first_is}
 use Rattle.sym_meaning.specs.Mode.{JudgedState}
 use Rattle.seek_mode.specs.SeekingMode.{the_hit, seeking_mode}
 use Rattle.seek_mode.specs.SoughtRuns.{judged_to_seek}
-use Rattle.seek_examples.specs.SeekPrograms.{overflow_in_test, error_or_abort}
+use Rattle.seek_examples.specs.SeekPrograms.{without_test, overflow_in_test, error_or_abort}
 
 -- how a run ends before its program does
 abbrev pub stopped : Res Stopped JudgedState Flow → Option Stopped
@@ -35,17 +35,17 @@ pub record ExampleJudgedRuns : Type 0 where
   -- a violation at no target, and a division by zero, are misses
   pub elsewhere : ends_judged (branch_on_input 5) (target 8 3 ∷ []) 8 (pos 5 ∷ []) ≡ Some Passes
   pub by_zero : ends_judged (combine_inputs NoOverflow Div) (target 5 3 ∷ []) 1 (pos 1 ∷ pos 0 ∷ []) ≡ Some Passes
-  -- loops and calls at their bounds, and the test after the last body
+  -- loops and calls at their bounds: the test after the last body is done, and no body after it
   pub three_turns : (w : List ℤ) → ends_judged count_to_three (target 8 3 ∷ []) 3 w ≡ Some (Fails the_hit)
   pub third_turn_beyond : (w : List ℤ) → ends_judged count_to_three (target 8 3 ∷ []) 2 w ≡ Some Passes
   pub four_deep : (w : List ℤ) → ends_judged recurse (target 5 3 ∷ []) 4 w ≡ Some (Fails the_hit)
   pub fourth_call_beyond : (w : List ℤ) → ends_judged recurse (target 5 3 ∷ []) 3 w ≡ Some Passes
   pub last_test : ends_judged overflow_in_test (target 3 10 ∷ []) 1 [] ≡ Some (Fails the_hit)
+  pub second_body : ends_judged without_test (target 7 7 ∷ []) 2 [] ≡ Some (Fails the_hit)
+  pub second_body_beyond : ends_judged without_test (target 7 7 ∷ []) 1 [] ≡ Some Passes
   -- events complete segments: a statement, a call, its value, a way
   pub assumed : ends_judged count_to_three (follow (inside (first_is 3)) ∷ target 8 3 ∷ []) 3 [] ≡ Some (Fails the_hit)
   pub never_assumed : ends_judged count_to_three (follow (inside (first_is 4)) ∷ target 8 3 ∷ []) 3 [] ≡ Some Passes
-  -- once: an avoid of the next segment isn't tested at the event that completes a segment
-  pub told_once : ends_judged count_to_three (follow (inside (first_is 3)) ∷ avoid_then (inside (first_is 3)) error_behind ∷ []) 3 [] ≡ Some (Fails the_hit)
   pub entered : ends_judged recurse (follow (Enter (at 2 56)) ∷ target 5 3 ∷ []) 4 [] ≡ Some (Fails the_hit)
   pub returned : ends_judged (branch_on_input 5) (returns 4 33 (number 1 12 5) ∷ target 6 5 ∷ []) 8 (pos 5 ∷ []) ≡ Some (Fails the_hit)
   pub not_returned : ends_judged (branch_on_input 5) (returns 4 33 (number 1 12 6) ∷ target 6 5 ∷ []) 8 (pos 5 ∷ []) ≡ Some Passes
