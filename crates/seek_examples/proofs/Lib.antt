@@ -1,3 +1,4 @@
+mod ExampleJudgedRuns
 mod ExampleRunsWithBound
 mod ExampleSeekWeights
 mod ExampleSeeks

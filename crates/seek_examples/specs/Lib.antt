@@ -2,3 +2,4 @@ pub mod SeekPrograms
 pub mod ExampleSeeks
 pub mod ExampleRunsWithBound
 pub mod ExampleSeekWeights
+pub mod ExampleJudgedRuns

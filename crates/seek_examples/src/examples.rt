@@ -1,4 +1,5 @@
 // Examples on which the definitions of the values that are sought are computed.
+ghost use Rattle.seek_examples.specs.ExampleJudgedRuns.{ExampleJudgedRuns};
 ghost use Rattle.seek_examples.specs.ExampleRunsWithBound.{ExampleRunsWithBound};
 ghost use Rattle.seek_examples.specs.ExampleSeekWeights.{ExampleSeekWeights};
 ghost use Rattle.seek_examples.specs.ExampleSeeks.{ExampleBounds, ExampleSeeks};
@@ -17,4 +18,8 @@ fn example_seeks()
 
 fn example_seek_weights()
     ensures { ExampleSeekWeights }
+{}
+
+fn example_judged_runs()
+    ensures { ExampleJudgedRuns }
 {}

@@ -1,0 +1,2 @@
+pub mod SeekingMode
+pub mod SoughtRuns

@@ -1,0 +1,7 @@
+//! The mode of runs that seek: what a statement, another event, a violation and a loop do where values are sought for
+//! the open inputs of a witness. In it the runs that a circuit follows are these runs.
+#![tactic(auto)]
+
+mod laws;
+
+pub use laws::{hits_are_failures, sought_runs_are_judged};
