@@ -65,10 +65,10 @@ fn whole(walk: &Walk) -> Result<Sym, OutOfMemory>
 }
 
 // The obligations of a program that isn't too heavy.
-fn made(
+fn made<'a>(
     alloc: Global,
-    program: &Program,
-    invariants: &Seq<PlacedInvariant>,
+    program: &'a Program,
+    invariants: &'a Seq<PlacedInvariant>,
 ) -> Result<Obligations, OutOfMemory>
     requires invariants { All (IsInvariant (program_view program.now)) (placed_view invariants.now) }
     requires light { IsLight (program_view program.now) (placed_view invariants.now) }

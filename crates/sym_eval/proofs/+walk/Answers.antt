@@ -24,7 +24,7 @@ use Rattle.sym_exprs.proofs.Assigning.{assign_target, step_target, assign_value,
 use Rattle.sym_exprs.proofs.Calls.{site_of, input_values, reach_values, abort_values, exit_ready, exit_room, exit_values}
 use Rattle.sym_invariants.specs.Walking.{program_of, mode_of, invariants_of}
 use Rattle.sym_eval.specs.Targets.{finding, finding_in, storing, Found}
-use Rattle.sym_eval.proofs.Nodes.{as_node, as_call, logic_alike, one_argument, one_counted}
+use Rattle.sym_eval.proofs.Nodes.{as_node, as_call, logic_alike, reach_alike, one_argument, one_counted}
 use Rattle.sym_eval.proofs.Found.{spent_target, spent_look, object_type, replace_cost, update_cost, target_kept, keys_kept, kept_twice, kept_thrice, stored_before, found_scalar, element_weighs, element_ready, element_type, element_room, element_values, index_ready, index_in, index_room, index_found, row_ready, column_ready, row_in, column_in, row_room, row_found}
 use Rattle.c_calls.specs.Loops.{is_loop, loop_of}
 use Rattle.sym_eval.proofs.Declaring.{stored_ready, stored_in, stored_room, store_in, store_room, stored_does, values_none, values_next, values_on, rows_none, rows_part, rows_next, rows_on, absent_room, absent_does, one_ready, one_does, many_ready, many_does, rows_ready, rows_do, name_ready, name_does, names_none, names_next, names_on, no_first, first_exp_ready, first_exp_does, first_names_ready, first_names_do, values_part, names_part}
@@ -500,7 +500,7 @@ expressions::call-returns-in_ok-r-in-Input t c =
 pub expressions::call-returns-in_ok-reach-in-ReachError : goal.expressions::call-returns-in_ok-reach-in-ReachError
 expressions::call-returns-in_ok-reach-in-ReachError t c =
     subst (λ k. Values (program_of c.args.walk.now) (mode_of c.args.walk.now) c.args.depth c.args.at (use_of c.args.used) (Expr c.args.e.now.spot c.args.e.now.ty (Call k (exprs_view c.args.args.now) c.args.close)) c.args.sym.now c.reach.new.sym c.new-bits.result) (sym c.in-ReachError.is)
-    (wanted (program_of c.args.walk.now) (mode_of c.args.walk.now) c.args.depth c.args.at (use_of c.args.used) (Expr c.args.e.now.spot c.args.e.now.ty (Call ReachError (exprs_view c.args.args.now) c.args.close)) (λ v l. refl) (reach_values (program_of c.args.walk.now) (mode_of c.args.walk.now) c.args.depth c.args.at 0 c.new-bits.result c.args.e.now.spot c.args.close c.args.e.now.ty (exprs_view c.args.args.now) (subst (λ k. Ready (program_of c.args.walk.now) (mode_of c.args.walk.now) c.args.depth c.args.at c.args.sym.now (Expr c.args.e.now.spot c.args.e.now.ty (Call k (exprs_view c.args.args.now) c.args.close))) c.in-ReachError.is c.requires.ready) (untold c.args.walk.now c.args.sym.now (λ v. Enter c.args.close) c.requires.ready.fits)
+    (wanted (program_of c.args.walk.now) (mode_of c.args.walk.now) c.args.depth c.args.at (use_of c.args.used) (Expr c.args.e.now.spot c.args.e.now.ty (Call ReachError (exprs_view c.args.args.now) c.args.close)) (λ v l. reach_alike (program_of c.args.walk.now) (mode_of c.args.walk.now) c.args.depth c.args.at (use_of c.args.used) c.args.e.now.spot c.args.close c.args.e.now.ty (exprs_view c.args.args.now) v l) (reach_values (program_of c.args.walk.now) (mode_of c.args.walk.now) c.args.depth c.args.at 0 c.new-bits.result c.args.e.now.spot c.args.close c.args.e.now.ty (exprs_view c.args.args.now) (subst (λ k. Ready (program_of c.args.walk.now) (mode_of c.args.walk.now) c.args.depth c.args.at c.args.sym.now (Expr c.args.e.now.spot c.args.e.now.ty (Call k (exprs_view c.args.args.now) c.args.close))) c.in-ReachError.is c.requires.ready) (untold c.args.walk.now c.args.sym.now (λ v. Enter c.args.close) c.requires.ready.fits)
     (c.in_ok-reach-in-ReachError.ensures (mode_of c.args.walk.now) (site_of (program_of c.args.walk.now) (mode_of c.args.walk.now) c.args.depth c.args.at c.args.e.now.spot c.args.close c.args.e.now.ty) c.requires.ready.duty) (omega arith)))
 
 pub expressions::call-returns-in_ok-end-in-Abort : goal.expressions::call-returns-in_ok-end-in-Abort
@@ -688,6 +688,9 @@ assignments::update-operate-requires-clause-room t c =
     let few = spent_look (program_of c.args.walk.now) (expr_view c.args.to.now) c.in_ok-cell.cell c.in_ok-cell.ensures.meant in
     (update_sides (program_of c.args.walk.now) (mode_of c.args.walk.now) c.args.depth c.args.at c.args.e.now.spot c.args.e.now.ty c.args.op (expr_view c.args.to.now) (expr_view c.args.from.now) c.type_of-a.result c.type_of-b.result c.type_of-a.ensures c.type_of-b.ensures c.requires.ready c.in_ok-cell.ensures.targets look c.in_ok-y.ensures (omega (arith, few))).2
 
+pub assignments::update-store_target-requires-clause-fits : goal.assignments::update-store_target-requires-clause-fits
+assignments::update-store_target-requires-clause-fits t c = (c.in_ok-z.ensures (mode_of c.args.walk.now) c.requires.ready.duty).follows.fits
+
 pub assignments::update-store_target-requires-clause-typed : goal.assignments::update-store_target-requires-clause-typed
 assignments::update-store_target-requires-clause-typed t c =
     let q = assign_parts (program_of c.args.walk.now) c.args.e.now.spot c.args.e.now.ty (Some c.args.op) (expr_view c.args.to.now) (expr_view c.args.from.now) c.requires.ready.types in
@@ -742,11 +745,20 @@ pub assignments::step-look_target-requires-clause-room : goal.assignments::step-
 assignments::step-look_target-requires-clause-room t c =
     omega (arith, spent_look (program_of c.args.walk.now) (expr_view c.args.to.now) c.in_ok-cell.cell c.in_ok-cell.ensures.meant, (longer_by c.in_ok-cell.ensures.targets.follows.added).1, c.requires.ready.room)
 
+pub assignments::step-operate-requires-clause-fits : goal.assignments::step-operate-requires-clause-fits
+assignments::step-operate-requires-clause-fits t c = (c.in_ok-x.ensures (mode_of c.args.walk.now)).follows.fits
+
+pub assignments::step-operate-requires-clause-x_in : goal.assignments::step-operate-requires-clause-x_in
+assignments::step-operate-requires-clause-x_in t c = (c.in_ok-x.ensures (mode_of c.args.walk.now)).bits_in
+
 pub assignments::step-operate-requires-clause-room : goal.assignments::step-operate-requires-clause-room
 assignments::step-operate-requires-clause-room t c =
     let look = c.in_ok-x.ensures (mode_of c.args.walk.now) in
     let few = spent_look (program_of c.args.walk.now) (expr_view c.args.to.now) c.in_ok-cell.cell c.in_ok-cell.ensures.meant in
     step_sides (program_of c.args.walk.now) (mode_of c.args.walk.now) c.args.depth c.args.at c.args.e.now.spot c.args.e.now.ty c.args.op (expr_view c.args.to.now) c.type_of-a.result c.op_of_step-by.result c.type_of-a.ensures c.op_of_step-by.ensures c.requires.ready c.in_ok-cell.ensures.targets look (omega (arith, few))
+
+pub assignments::step-store_target-requires-clause-fits : goal.assignments::step-store_target-requires-clause-fits
+assignments::step-store_target-requires-clause-fits t c = (c.in_ok-z.ensures (mode_of c.args.walk.now) c.requires.ready.duty).follows.fits
 
 pub assignments::step-store_target-requires-clause-typed : goal.assignments::step-store_target-requires-clause-typed
 assignments::step-store_target-requires-clause-typed t c =

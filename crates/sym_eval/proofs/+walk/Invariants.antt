@@ -4,7 +4,7 @@ use Rattle.c_core.specs.View.{expr_view, exprs_view, expr_view_if, first_view, f
 use Rattle.c_core.specs.declared.tree.Callee.TheVariants.{Exit, Defined}
 use Rattle.sym_exprs.specs.Evaluating.{weight_of as expression_weight}
 use Rattle.sym_exprs.specs.Targeting.{weight_of_target}
-use Rattle.sym_invariants.specs.Walking.{program_of, mode_of}
+use Rattle.sym_invariants.specs.Walking.{program_of, mode_of, invariants_of}
 use Rattle.sym_weight.specs.Views.{else_of}
 use Rattle.sym_eval.specs.Doing.{weight_of_initials, InitialsDo, weight_of_rows, RowsDo, weight_of_initial, weight_of_names, NamesDo, weight_of_first, weight_of, weight_of_form, weight_of_else, weight_of_block, BlockDoes, weight_of_control}
 use Rattle.c_calls.specs.Loops.{loop_of}
@@ -201,11 +201,11 @@ abbrev pub decreases-calls::call_defined : goal.decreases-calls::call_defined
 decreases-calls::call_defined l = 4 * expression_weight (program_of l.walk.now) (mode_of l.walk.now) l.depth (Expr l.spot l.ty (Call (Defined l.function) (exprs_view l.args.now) l.close)) + 0
 
 abbrev pub decreases-calls::call_found : goal.decreases-calls::call_found
-decreases-calls::call_found l = 4 * weight_in (program_of l.walk.now) (mode_of l.walk.now) l.depth l.function + 3
+decreases-calls::call_found l = 4 * weight_in (program_of l.walk.now) (invariants_of l.walk.now) l.depth l.function + 3
 
 abbrev pub decreases-calls::run_function : goal.decreases-calls::run_function
 decreases-calls::run_function l =
-    4 * function_body (program_of l.walk.now) (weighing (weight_in (program_of l.walk.now) (mode_of l.walk.now) l.depth)) (placed_weight (program_of l.walk.now) (mode_of l.walk.now)) l.function.now.result (stmt_view l.function.now.body) + 2
+    4 * function_body (program_of l.walk.now) (weighing (weight_in (program_of l.walk.now) (invariants_of l.walk.now) l.depth)) (placed_weight (program_of l.walk.now) (invariants_of l.walk.now)) l.function.now.result (stmt_view l.function.now.body) + 2
 
 -- the arguments so far have their values
 abbrev pub invariant-calls::evals-loop-e : goal.invariant-calls::evals-loop-e
