@@ -1,0 +1,4 @@
+mod Found
+mod Numbers
+mod Drawn
+mod Spent
