@@ -1,4 +1,4 @@
-mod Found
-mod Numbers
+pub mod Found
+pub mod Numbers
 mod Drawn
-mod Spent
+pub mod Spent

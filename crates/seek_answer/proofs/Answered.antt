@@ -61,26 +61,25 @@ module _ (p : Program) (ss : List BoundSegment) (k : ℕ) where
     room = have brief.room
 
     module _ (v : ℕ → Bool) (on : holds v r.net r.reach ≡ true) where
-      w : List ℤ
-      w = values_under p v r
+      sought : IsShownIn p ss k (values_under p v r) step_budget
+      sought =
+          let w = values_under p v r in
+          shows w (room w) (sym (h.2.each v).hits ∙ on) step_budget brief.steps
 
-      sought : IsShownIn p ss k w step_budget
-      sought = shows w (room w) (sym (h.2.each v).hits ∙ on) step_budget brief.steps
+      drawn : (Run p (InTurn (values_under p v r)) step_budget).draws ≡ draws_at p v r.net r.sites
+      drawn =
+          let w = values_under p v r in
+          ap (λ n. (Run p (InTurn w) n).draws) (sym sought.budget) ∙ sym ((decides w (room w)).draws sought.positions sought.found) ∙ (h.2.each v).draws
 
-      drawn : (Run p (InTurn w) step_budget).draws ≡ draws_at p v r.net r.sites
-      drawn = ap (λ n. (Run p (InTurn w) n).draws) (sym sought.budget) ∙ sym ((decides w (room w)).draws sought.positions sought.found) ∙ (h.2.each v).draws
-
-      module _ (draws : List Draw) (same : draws ≡ draws_at p v r.net r.sites) (watched : Watched) (is : IsWatched p ss (InTurn (values_of draws)) step_budget watched) where
-        there : IsWatched p ss (InTurn w) step_budget watched
-        there = subst (λ (ds : List Draw). IsWatched p ss (InTurn (values_of ds)) step_budget watched) same is
-
+      module _ (watched : Watched) (is : IsWatched p ss (InTurn (values_under p v r)) step_budget watched) where
         pub found_some : watched.found ≡ None → ⊥
-        found_some = some_found w sought watched.found there.found
+        found_some = some_found (values_under p v r) sought watched.found is.found
 
         pub answered_found : (N : ℕ) (answer : Sought) → IsShown watched answer → IsAnswer N p ss k r answer
         answered_found N answer s =
-            let made : watched.run.draws ≡ draws_at p v r.net r.sites = ap (λ (x : GivenRun). x.draws) there.run ∙ drawn in
-            let m : Matches p ss (SeenIn p (InTurn w) step_budget) s.positions = subst (Finds p ss (SeenIn p (InTurn w) step_budget)) s.found there.found in
+            let w = values_under p v r in
+            let made : watched.run.draws ≡ draws_at p v r.net r.sites = ap (λ (x : GivenRun). x.draws) is.run ∙ drawn in
+            let m : Matches p ss (SeenIn p (InTurn w) step_budget) s.positions = subst (Finds p ss (SeenIn p (InTurn w) step_budget)) s.found is.found in
             subst (IsAnswer N p ss k r) (sym s.shown) (found_at w sought watched.run.draws s.positions (ap values_of (sym made)) (drawn ∙ sym made) m)
 
   pub left_open : (r : Reach) → IsPromised p ss k r → (N : ℕ) (s : SpentAt) → 1 ≤ N → IsSpentOn N r.net r.reach s → IsLeftOpen N p r s

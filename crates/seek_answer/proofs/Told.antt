@@ -1,5 +1,5 @@
 -- What the bit of all runs tells of the values that are sought.
-use Rattle.std.proofs.Common.{◌≡◌, ◌<◌, ◌^◌, arith, ℕ, true, false, ℤ, List, [], ◌∷◌, length, sym, ◌∙◌, subst, true≢false}
+use Rattle.std.proofs.Common.{◌≡◌, ◌<◌, ◌^◌, arith, ℕ, true, false, ℤ, List, [], ◌∷◌, length, sym, ◌∙◌, true≢false}
 use Rattle.std.specs.List.{All}
 use Rattle.bit_answers.specs.Deciding.{IsNeverTrue, IsWide}
 use Rattle.bit_answers.proofs.Numbers.{sites_wide}
@@ -31,8 +31,8 @@ module _ (p : Program) (ss : List BoundSegment) (k : ℕ) (r : Reach) (h : IsPro
   pub small : IsNet r.net → length r.net < 2 ^ 28
   small n = omega (arith, counted r.net n, h.2.gates, h.2.feeds, h.2.drawn, h.2.light)
 
-  pub wide : (ds : List DrawSite) → ds ≡ r.sites → All (IsWide p.model) ds
-  wide ds e = subst (All (IsWide p.model)) (sym e) (sites_wide p.model r.net 0 (count_inputs r.net) r.sites h.2.sites_in)
+  pub wide : All (IsWide p.model) r.sites
+  wide = sites_wide p.model r.net 0 (count_inputs r.net) r.sites h.2.sites_in
 
   -- where there are inputs the program has an open part
   pub open_part : 0 < count_inputs r.net → (x : DrawPlace) × IsOpen p x

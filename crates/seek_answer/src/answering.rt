@@ -1,12 +1,14 @@
 // Values that are sought, by the bit of a net.
 ghost use Rattle.std.specs.Prelude.{◌≡◌, ◌+◌, ◌-◌, ◌≤◌, ◌<◌, ◌^◌, IfOk, None};
+ghost use Rattle.std.specs.List.{All};
+ghost use Rattle.bit_answers.specs.Deciding.{IsWide, inputs_of};
 ghost use Rattle.c_core.specs.View.{program_view};
 ghost use Rattle.c_meaning.specs.Replay.{values_of};
 ghost use Rattle.c_meaning.specs.declared.run.Choices.TheVariants.{InTurn as TakenInTurn};
 ghost use Rattle.circuits.specs.Net.{count_inputs};
 ghost use Rattle.judge.specs.Watching.{IsWatched};
 ghost use Rattle.seek_answer.specs.Answering.{AreBrief, IsAnswer, IsShown, IsUnspent, step_budget};
-ghost use Rattle.seek_answer.specs.Reaching.{IsPromised};
+ghost use Rattle.seek_answer.specs.Reaching.{IsPromised, values_under};
 ghost use Rattle.way_match.specs.View.{segments_view};
 
 use crate::reach::Reach;
@@ -43,18 +45,23 @@ fn in_turn(alloc: Global, draws: &[Draw]) -> Result<Choices, OutOfMemory>
     Ok(Choices::InTurn(values))
 }
 
-// the run on the values of draws, matched while it goes
-fn run_on(
+// the run on the values that inputs of the net stand for, matched while it goes
+fn run_under(
     alloc: Global,
     program: &Program,
     bound: &Bound,
-    draws: &[Draw],
+    reach: &Reach,
+    inputs: &[bool],
 ) -> Result<Watched, OutOfMemory>
+    requires { All (IsWide program.now.model) reach.now.sites }
     ensures { IfOk result (IsWatched (program_view program.now) (segments_view bound.now)
-        (TakenInTurn (values_of draws.now)) step_budget) }
+        (TakenInTurn (values_under (program_view program.now) (inputs_of inputs.now) reach.now)) step_budget) }
 {
-    let choices = in_turn(alloc, draws)?;
-    run_watched(alloc, program, bound, &choices, 2000000)
+    let sites = reach.sites.as_slice();
+    let draws = draws_under(alloc, program, &reach.net, sites, inputs)?;
+    let choices = in_turn(alloc, draws.as_slice())?;
+    let watched = run_watched(alloc, program, bound, &choices, 2000000)?;
+    Ok(watched)
 }
 
 // what came of a run that violates the property and matches the segments
@@ -98,9 +105,7 @@ pub fn answer(
     match decide_bit(alloc, net, reach.reach, conflicts)? {
         Finding::NeverTrue(_) => Ok(Sought::Nothing),
         Finding::TrueUnder(inputs) => {
-            let sites = reach.sites.as_slice();
-            let draws = draws_under(alloc, program, net, sites, inputs.as_slice())?;
-            let watched = run_on(alloc, program, bound, draws.as_slice())?;
+            let watched = run_under(alloc, program, bound, reach, inputs.as_slice())?;
             Ok(shown(watched))
         }
         Finding::Spent(spent) => Ok(Sought::Spent(spent)),
