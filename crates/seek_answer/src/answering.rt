@@ -1,5 +1,5 @@
 // Values that are sought, by the bit of a net.
-ghost use Rattle.std.specs.Prelude.{◌≡◌, ◌+◌, ◌-◌, ◌≤◌, ◌<◌, ◌^◌, IfOk, None};
+ghost use Rattle.std.specs.Prelude.{◌≡◌, ◌+◌, ◌-◌, ◌≤◌, ◌<◌, ◌^◌, ◌++◌, ◌∷◌, [], IfOk, None, OnOk};
 ghost use Rattle.std.specs.List.{All};
 ghost use Rattle.bit_answers.specs.Deciding.{IsWide, inputs_of};
 ghost use Rattle.c_core.specs.View.{program_view};
@@ -34,13 +34,21 @@ pub enum Sought {
     Spent(SpentAt),
 }
 
+// one value more
+fn push_value(values: &mut Seq<i128>, draw: Draw) -> Result<(), OutOfMemory>
+    ensures { OnOk result (values.new ≡ values.old ++ draw.value ∷ []) }
+{
+    values.push(draw.value)?;
+    Ok(())
+}
+
 // the values of draws, to be taken in turn
 fn in_turn(alloc: Global, draws: &[Draw]) -> Result<Choices, OutOfMemory>
     ensures { IfOk result (λ choices. choices ≡ TakenInTurn (values_of draws.now)) }
 {
     let mut values = Seq::new(alloc);
     for draw in draws {
-        values.push(draw.value)?;
+        push_value(&mut values, *draw)?;
     }
     Ok(Choices::InTurn(values))
 }

@@ -37,8 +37,8 @@ returns-in-NeverTrue-clause-right c =
     none_sought p ss c.args.turns r c.requires.promised (c.hits_exactly.ensures p ss c.args.turns)
     (c.few_steps_have_room.ensures p c.args.turns c.requires.brief.room) by.never
 
-pub returns-in_ok-watched-in-TrueUnder-clause-right : goal.returns-in_ok-watched-in-TrueUnder-clause-right
-returns-in_ok-watched-in-TrueUnder-clause-right c =
+pub returns-in-TrueUnder-clause-right : goal.returns-in-TrueUnder-clause-right
+returns-in-TrueUnder-clause-right c =
     let p = program_view c.args.program.now in
     let ss = segments_view c.args.bound.now in
     let r = c.args.reach.now in
@@ -47,17 +47,17 @@ returns-in_ok-watched-in-TrueUnder-clause-right c =
     answered_found p ss c.args.turns r c.requires.promised c.requires.brief (c.few_steps_have_room.ensures p c.args.turns) (c.hits_exactly.ensures p ss c.args.turns)
     (c.enough_steps_show.ensures p ss c.args.turns) (inputs_of c.as_slice.result.now) on c.in_ok-watched-in-TrueUnder.watched c.in_ok-watched-in-TrueUnder.ensures c.args.conflicts c.shown.result c.shown.ensures
 
-pub returns-in_ok-watched-in-TrueUnder-clause-decided : goal.returns-in_ok-watched-in-TrueUnder-clause-decided
-returns-in_ok-watched-in-TrueUnder-clause-decided c more = subst IsUnspent (sym c.shown.ensures.shown) tt
+pub returns-in-TrueUnder-clause-decided : goal.returns-in-TrueUnder-clause-decided
+returns-in-TrueUnder-clause-decided c more = subst IsUnspent (sym c.shown.ensures.shown) tt
 
-pub returns-in-Spent-clause-right : goal.returns-in-Spent-clause-right
-returns-in-Spent-clause-right c =
+pub returns-clause-right : goal.returns-clause-right
+returns-clause-right c =
     let r = c.args.reach.now in
     let spent = subst (IsDecidedAs c.args.conflicts r.net r.reach) c.in-Spent.is c.in_ok-decide_bit.ensures in
     left_open (program_view c.args.program.now) (segments_view c.args.bound.now) c.args.turns r c.requires.promised c.args.conflicts c.in-Spent.spent c.requires.some spent
 
-pub returns-in-Spent-clause-decided : goal.returns-in-Spent-clause-decided
-returns-in-Spent-clause-decided c more =
+pub returns-clause-decided : goal.returns-clause-decided
+returns-clause-decided c more =
     let r = c.args.reach.now in
     let spent = subst (IsDecidedAs c.args.conflicts r.net r.reach) c.in-Spent.is c.in_ok-decide_bit.ensures in
     absurd (omega (arith, spent.bounded, more))

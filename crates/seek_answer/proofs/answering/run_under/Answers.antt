@@ -1,5 +1,6 @@
 use Rattle.std.proofs.Common.{sym, subst, ◌∙◌, ap, ap₂}
-use Rattle.bit_answers.specs.Deciding.{inputs_of}
+use Rattle.std.specs.List.{All}
+use Rattle.bit_answers.specs.Deciding.{IsWide, inputs_of}
 use Rattle.c_core.specs.View.{program_view}
 use Rattle.c_meaning.specs.declared.run.Choices.TheVariants.{InTurn}
 use Rattle.c_meaning.specs.Replay.{values_of}
@@ -8,6 +9,11 @@ use Rattle.seek_answer.proofs.answering.run_under.Goals as goal
 use Rattle.seek_answer.specs.Answering.{step_budget}
 use Rattle.sym_state.specs.Standing.{draws_at}
 use Rattle.way_match.specs.View.{segments_view}
+
+pub draws_under-requires : goal.draws_under-requires
+draws_under-requires c = record {
+  wide = subst (All (IsWide c.args.program.now.model)) (sym c.as_slice-sites.ensures) c.requires;
+}
 
 pub returns : goal.returns
 returns c =
