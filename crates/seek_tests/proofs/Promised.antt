@@ -162,25 +162,29 @@ module _ (hit : Bool) (r : Reach) (made : IsMade hit r) where
     stands_too = record { drawn = record { function = 0; reached = inl refl; there = (1, omega arith, refl) }; unchanged = λ e. cc }
 
     pub promised : IsPromised (program_with callee close) ss k r
-    promised = (7, 2, record {
-      reach_in = made.means.inside;
-      sites_in = are_sites;
-      stand =
-          subst (All (StandsFor (program_with callee close))) (sym made.sites)
-          (All-cons (StandsFor (program_with callee close)) (site_at 2 1) (site_at 3 2 ∷ []) stands
-          (All-cons (StandsFor (program_with callee close)) (site_at 3 2) [] stands_too (All-nil (StandsFor (program_with callee close)))));
-      each = λ v.
-          under v (values_under (program_with callee close) v r)
-          (ap (λ ds. truth (or_zero (first_value (values_of ds)))) (drawn_under v) ∙ truth_of (v 0))
-          (ap (λ ds. truth (or_zero (first_value (other_values (values_of ds))))) (drawn_under v) ∙ truth_of (v 1));
-      all = λ w.
-          let v = both_inputs (truth (or_zero (first_value w))) (truth (or_zero (first_value (other_values w)))) in
-          (v, under v w refl refl);
-      gates = ands;
-      feeds = omega (arith, inputs);
-      drawn = omega arith;
-      light = omega arith;
-    })
+    promised = (
+      7,
+      2,
+      record {
+        reach_in = made.means.inside;
+        sites_in = are_sites;
+        stand =
+            subst (All (StandsFor (program_with callee close))) (sym made.sites)
+            (All-cons (StandsFor (program_with callee close)) (site_at 2 1) (site_at 3 2 ∷ []) stands
+            (All-cons (StandsFor (program_with callee close)) (site_at 3 2) [] stands_too (All-nil (StandsFor (program_with callee close)))));
+        each = λ v.
+            under v (values_under (program_with callee close) v r)
+            (ap (λ ds. truth (or_zero (first_value (values_of ds)))) (drawn_under v) ∙ truth_of (v 0))
+            (ap (λ ds. truth (or_zero (first_value (other_values (values_of ds))))) (drawn_under v) ∙ truth_of (v 1));
+        all = λ w.
+            let v = both_inputs (truth (or_zero (first_value w))) (truth (or_zero (first_value (other_values w)))) in
+            (v, under v w refl refl);
+        gates = ands;
+        feeds = omega (arith, inputs);
+        drawn = omega arith;
+        light = omega arith;
+      },
+    )
 
 -- ---- the two programs
 error_draws : (w : List ℤ) → draws_sought (SeekRun (program_with ReachError 15) at_last_call 1 w) ≡ two_draws w
@@ -212,10 +216,38 @@ abort_brief p same = subst (λ x. AreBrief x 1) (sym same) (record { steps = ome
 
 pub error_fits : IsProgram (program_with ReachError 15)
 error_fits = record {
-  objects = tt; cells = tt; numbered = tt; named = tt; starts = tt; started_once = tt; main = tt; params = tt; types = tt; known = tt; owned = tt; reach = tt; blocks = tt; jumps = tt; in_order = tt;
+  objects = tt;
+  cells = tt;
+  numbered = tt;
+  named = tt;
+  starts = tt;
+  started_once = tt;
+  main = tt;
+  params = tt;
+  types = tt;
+  known = tt;
+  owned = tt;
+  reach = tt;
+  blocks = tt;
+  jumps = tt;
+  in_order = tt;
 }
 
 pub abort_fits : IsProgram (program_with Abort 9)
 abort_fits = record {
-  objects = tt; cells = tt; numbered = tt; named = tt; starts = tt; started_once = tt; main = tt; params = tt; types = tt; known = tt; owned = tt; reach = tt; blocks = tt; jumps = tt; in_order = tt;
+  objects = tt;
+  cells = tt;
+  numbered = tt;
+  named = tt;
+  starts = tt;
+  started_once = tt;
+  main = tt;
+  params = tt;
+  types = tt;
+  known = tt;
+  owned = tt;
+  reach = tt;
+  blocks = tt;
+  jumps = tt;
+  in_order = tt;
 }

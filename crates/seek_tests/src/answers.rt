@@ -18,7 +18,7 @@ fn an_error_is_found(rt: HostRuntime) -> Result<(), Fail> {
             for draw in draws.as_slice() {
                 assert_eq!(rt; draw.value, 0);
             }
-            assert!(rt; positions.as_slice() == [5].as_slice());
+            assert!(rt; positions.as_slice() == [8].as_slice());
             Ok(())
         }
         Sought::Nothing | Sought::Spent(_) => Err(Fail::new("not found")),

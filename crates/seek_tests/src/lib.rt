@@ -1,6 +1,6 @@
 //! What is answered of a search for values, on a net that is made by hand: found, nothing and spent, each once. The
 //! crate has tests alone, above `seek_answer`.
-#![tactic(auto)]
+#![tactic(none)]
 
 #[cfg(test)]
 mod answers;
