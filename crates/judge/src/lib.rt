@@ -2,5 +2,7 @@
 #![tactic(auto)]
 
 mod violation;
+mod watched;
 
 pub use violation::judge_violation;
+pub use watched::{Watched, run_watched};

@@ -4,11 +4,11 @@ ghost use Rattle.judge.specs.Judging.{verdict_by};
 ghost use Rattle.way_match.specs.Verdicts.{IsRightVerdict};
 ghost use Rattle.way_match.specs.View.{segments_view};
 
+use crate::watched::run_watched;
 use c_core::Program;
 use c_meaning::{Cause, End, Reason, Run, Verdict};
-use flow_machine::run_machine;
 use std::alloc::Global;
-use way_match::{Bound, Matcher, given};
+use way_match::{Bound, given};
 use wv_base::{OutOfMemory, Seq};
 
 /// The verdict on the run of a program that draws the values of a violation sequence, with a budget of steps.
@@ -23,10 +23,8 @@ pub fn judge_violation(
     ensures { IfOk result (IsRightVerdict steps (program_view program.now) (segments_view bound.now)) }
 {
     let choices = given(alloc, bound, program)?;
-    let mut matcher = Matcher::new(alloc, bound, program)?;
-    let run = run_machine(alloc, program, &choices, steps, &mut matcher)?;
-    let found = matcher.done();
-    Ok(verdict(run, found, steps))
+    let watched = run_watched(alloc, program, bound, &choices, steps)?;
+    Ok(verdict(watched.run, watched.found, steps))
 }
 
 fn verdict(run: Run, found: Option<Seq<u64>>, steps: u64) -> Verdict

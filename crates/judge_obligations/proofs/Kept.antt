@@ -11,7 +11,8 @@ use Rattle.circuits.specs.declared.net.Bit.{Bit}
 use Rattle.clauses.specs.Accepted.{AreRefuted, RefutesBit}
 use Rattle.clauses.specs.declared.log.Refutation.{Refutation}
 use Rattle.sym_duties.specs.declared.obligations.Obligations.{Obligations}
-use Rattle.judge_obligations.specs.Deciding.{AreNeverTrue, IsNeverTrue, IsShort, IsShownBy}
+use Rattle.bit_answers.specs.Deciding.{IsNeverTrue, IsShort, IsShownBy}
+use Rattle.judge_obligations.specs.Deciding.{AreNeverTrue}
 use Rattle.judge_obligations.specs.Logged.{AreKept, AreProved}
 use Rattle.judge_obligations.specs.Verdicts.{AreObligationsOf}
 use Rattle.judge_obligations.proofs.Verdicted.{all_hold}

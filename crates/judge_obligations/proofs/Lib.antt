@@ -1,6 +1,3 @@
-mod Found
-mod Numbers
-mod Drawn
 mod Chosen
 mod Verdicted
 mod Kept

@@ -5,7 +5,7 @@ use Rattle.c_meaning.specs.Replay.{values_of}
 use Rattle.sym_state.specs.Standing.{draws_at}
 use Rattle.judge_obligations.specs.Telling.{FailingBitsTell}
 use Rattle.judge_obligations.specs.Verdicts.{IsSpentOver}
-use Rattle.judge_obligations.proofs.Found.{clash}
+use Rattle.bit_answers.proofs.Found.{clash}
 use Rattle.judge_obligations.proofs.Verdicted.{inside, small, spent_over}
 
 next : (n : ℕ) → n + 1 ≡ suc n

@@ -1,5 +1,5 @@
 -- From the failing bits to the verdict.
-use Rattle.std.proofs.Common.{◌≡◌, ℕ, zero, suc, ◌+◌, ◌-◌, ◌≤◌, ◌<◌, ◌^◌, Bool, true, List, length, refl, sym, ◌∙◌, ap, subst, arith, Some, get_or, inl, inr}
+use Rattle.std.proofs.Common.{◌≡◌, ℕ, ◌+◌, ◌-◌, ◌≤◌, ◌<◌, ◌^◌, Bool, true, List, length, refl, sym, ◌∙◌, ap, subst, arith, Some, get_or, inl, inr}
 use Rattle.std.specs.Prelude.{slice_get}
 use Rattle.std.proofs.lemmas.Option.{slice_get-get_or, slice_get_within, get_or_from_slice_get, same_Some}
 use Rattle.std.proofs.lemmas.Bool.{cases_lt}
@@ -21,13 +21,15 @@ use Rattle.clauses.specs.declared.log.SpentAt.{SpentAt}
 use Rattle.sym_state.specs.declared.state.DrawSite.{DrawSite}
 use Rattle.sym_state.specs.Standing.{draws_at}
 use Rattle.sym_duties.specs.declared.obligations.Obligations.{Obligations}
-use Rattle.judge_obligations.specs.Deciding.{AreNeverTrue, IsNeverTrue, IsSpentOn, IsWide}
+use Rattle.bit_answers.specs.Deciding.{IsNeverTrue, IsSpentOn, IsWide}
+use Rattle.judge_obligations.specs.Deciding.{AreNeverTrue}
 use Rattle.judge_obligations.specs.Answering.{IsShown, IsLeftOpen}
 use Rattle.judge_obligations.specs.Logged.{IsOther, IsUnconfirmed}
 use Rattle.judge_obligations.specs.Verdicts.{AreObligationsOf, HoldUpTo, AllHold, FailsFirst, IsSpentOver, IsUndecidedAt, IsRightOnInvariants, IsKept}
 use Rattle.judge_obligations.specs.declared.judging.Judged.{Judged}
-use Rattle.judge_obligations.proofs.Found.{clash}
-use Rattle.judge_obligations.proofs.Numbers.{sites_wide}
+use Rattle.bit_answers.proofs.Found.{clash}
+use Rattle.bit_answers.proofs.Numbers.{sites_wide}
+use Rattle.bit_answers.proofs.Spent.{spent_draws}
 
 -- what stands where a list has no bit
 abbrev no_bit : Bit
@@ -81,17 +83,13 @@ module _ (p : Program) (I : List Placed) (o : Obligations) (h : AreObligationsOf
         makes = ap (λ r. r.draws) run ∙ told.draws ∙ sym drawn;
       }
 
-  inputs_real : (N k : ℕ) → 1 ≤ N → N ≤ 2 ^ (k + 1) - 2 → 0 < k
-  inputs_real N zero some bounded = absurd (omega (arith, some, bounded))
-  inputs_real N (suc k) some bounded = omega arith
-
   pub spent_over : (N n : ℕ) (b : Bit) (s : SpentAt) → 1 ≤ N → slice_get o.failing n ≡ Some b → IsSpentOn N o.net b s → IsSpentOver N o (n + 1) s
   spent_over N n b s some at on = record {
     bit = b;
     named = ap (slice_get o.failing) (back n) ∙ at;
     clauses = on.clauses;
     log = on.log;
-    draws = inputs_real N (count_inputs o.net) some on.bounded;
+    draws = spent_draws N o.net b s some on;
   }
 
   pub undecided : (N n : ℕ) (b : Bit) (s : SpentAt) → 1 ≤ N → AreNeverTrue o.net o.failing n → n < length o.failing → slice_get o.failing n ≡ Some b → IsSpentOn N o.net b s → IsUndecidedAt N p I (n + 1) N

@@ -14,7 +14,8 @@ use Rattle.judge_obligations.specs.declared.judging.Settled.{Settled}
 use Rattle.judge_obligations.specs.declared.judging.Settled.TheVariants.{Holds, Ends}
 use Rattle.judge_obligations.specs.declared.logged.Logged.{Logged}
 use Rattle.judge_obligations.specs.declared.logged.Logged.TheVariants.{Proved, Other}
-use Rattle.judge_obligations.specs.Deciding.{AreNeverTrue, IsShort, IsShownBy}
+use Rattle.bit_answers.specs.Deciding.{IsShort, IsShownBy}
+use Rattle.judge_obligations.specs.Deciding.{AreNeverTrue}
 use Rattle.judge_obligations.specs.Verdicts.{AllHold, IsRightOnInvariants, IsKept, IsDecided}
 
 -- a short log for each obligation, which refutes the clauses of its failing bit; and the obligations hold

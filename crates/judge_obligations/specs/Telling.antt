@@ -8,7 +8,7 @@ use Rattle.circuits.specs.declared.net.Bit.{Bit}
 use Rattle.circuits.specs.Net.{holds, IsIn, IsNet}
 use Rattle.clauses.specs.declared.log.SpentAt.{SpentAt}
 use Rattle.sym_duties.specs.declared.obligations.Obligations.{Obligations}
-use Rattle.judge_obligations.specs.Deciding.{IsNeverTrue, IsSpentOn}
+use Rattle.bit_answers.specs.Deciding.{IsNeverTrue, IsSpentOn}
 use Rattle.judge_obligations.specs.Verdicts.{AreObligationsOf, IsSpentOver}
 
 -- of the failing bit of the obligation at an index

@@ -8,8 +8,7 @@ ghost use Rattle.judge_obligations.specs.Deciding.{AreNeverTrue};
 ghost use Rattle.judge_obligations.specs.Logged.{IsSettledAs, IsSettledUnspent};
 ghost use Rattle.judge_obligations.specs.Verdicts.{AreObligationsOf, IsRightOnInvariants, IsKept, IsDecided};
 
-use crate::draws::draws_under;
-use crate::failing::{Finding, decide_bit, is_false};
+use bit_answers::{Finding, decide_bit, draws_under, is_false};
 use c_core::Program;
 use c_meaning::{Cause, Draw, PlacedInvariant, Verdict};
 use circuits::Bit;
@@ -102,8 +101,8 @@ pub fn settle(
     let _ = net.nodes();
     let bit = failing_at(obligations, at);
     match decide_bit(alloc, net, bit, conflicts)? {
-        Finding::Holds(log) => Ok(Settled::Holds(log)),
-        Finding::Fails(values) => {
+        Finding::NeverTrue(log) => Ok(Settled::Holds(log)),
+        Finding::TrueUnder(values) => {
             let sites = obligations.sites.as_slice();
             let draws = draws_under(alloc, program, net, sites, values.as_slice())?;
             Ok(Settled::Ends(failed(obligations, at, draws)))

@@ -3,13 +3,10 @@
 //! budget was spent. `judge_logged` keeps besides the log that shows each obligation, where all hold.
 #![tactic(auto)]
 
-mod draws;
-mod failing;
 mod judging;
 mod laws;
 mod logged;
 
-pub use failing::{Finding, decide_bit, is_false};
 pub use judging::{Judged, decide};
 pub use laws::{failing_bits_tell, one_answer};
 pub use logged::{Logged, judge_logged};

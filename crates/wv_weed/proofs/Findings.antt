@@ -10,7 +10,7 @@ use Rattle.circuits.specs.declared.net.Bit.{Bit}
 use Rattle.circuits.specs.Net.{count_inputs, holds, IsNet}
 use Rattle.circuits.proofs.Nets.{counted}
 use Rattle.clauses.specs.declared.log.SpentAt.{SpentAt}
-use Rattle.judge_obligations.specs.Deciding.{IsNeverTrue, IsSpentOn}
+use Rattle.bit_answers.specs.Deciding.{IsNeverTrue, IsSpentOn}
 use Rattle.judge_obligations.specs.Telling.{BitTells}
 use Rattle.judge_obligations.specs.Verdicts.{AreObligationsOf}
 use Rattle.sym_duties.specs.declared.obligations.Obligations.{Obligations}

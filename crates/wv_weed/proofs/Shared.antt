@@ -8,7 +8,7 @@ use Rattle.circuits.specs.declared.net.NetNode.{NetNode}
 use Rattle.circuits.specs.Net.{IsIn, holds}
 use Rattle.circuits.specs.Numbers.{digit}
 use Rattle.circuits.proofs.Nets.{holds-append}
-use Rattle.judge_obligations.specs.Deciding.{IsNeverTrue}
+use Rattle.bit_answers.specs.Deciding.{IsNeverTrue}
 use Rattle.wv_weed.specs.Known.{AreNever, AreShared, flag_place}
 use Rattle.wv_weed.specs.Numbers.{IsSet}
 use Rattle.wv_weed.proofs.Spared.{none_replicated}

@@ -3,7 +3,7 @@ use Rattle.std.specs.Prelude.{◌≡◌, ℕ, ◌+◌, ◌*◌, ◌≤◌, Bool,
 use Rattle.circuits.specs.declared.net.Bit.{Bit}
 use Rattle.circuits.specs.declared.net.NetNode.{NetNode}
 use Rattle.circuits.specs.Numbers.{digit}
-use Rattle.judge_obligations.specs.Deciding.{IsNeverTrue}
+use Rattle.bit_answers.specs.Deciding.{IsNeverTrue}
 use Rattle.wv_weed.specs.Numbers.{IsSet}
 
 -- the place of a bit's flag: two for each node, one for its value and one for the opposite

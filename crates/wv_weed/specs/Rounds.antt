@@ -12,7 +12,7 @@ use Rattle.c_meaning.specs.Placing.{placed_view}
 use Rattle.circuits.specs.declared.net.Bit.{Bit}
 use Rattle.circuits.specs.declared.net.NetNode.{NetNode}
 use Rattle.clauses.specs.declared.log.SpentAt.{SpentAt}
-use Rattle.judge_obligations.specs.Deciding.{IsNeverTrue}
+use Rattle.bit_answers.specs.Deciding.{IsNeverTrue}
 use Rattle.judge_obligations.specs.Verdicts.{AreObligationsOf}
 use Rattle.sym_duties.specs.Answers.{CanBeJudged, IsFault}
 use Rattle.sym_duties.specs.declared.fault.SymFault.{SymFault}

@@ -1,11 +1,11 @@
 // What is known of a net from one round to the next: bits that no inputs make true.
 ghost use Rattle.std.specs.Prelude.{◌≡◌, ◌<◌, ◌^◌, IfOk, IsTrue, length, slice_set, true};
 ghost use Rattle.circuits.specs.Net.{IsIn};
-ghost use Rattle.judge_obligations.specs.Deciding.{IsNeverTrue};
+ghost use Rattle.bit_answers.specs.Deciding.{IsNeverTrue};
 ghost use Rattle.wv_weed.specs.Known.{AreNever, AreShared, flag_place};
 
+use bit_answers::is_false;
 use circuits::{Bit, Net};
-use judge_obligations::is_false;
 use std::alloc::Global;
 use wv_base::OutOfMemory;
 

@@ -4,12 +4,13 @@ ghost use Rattle.wv_weed.specs.Known.{AreNever};
 ghost use Rattle.wv_weed.specs.Rounds.{IsDutyOf, IsFoundIn, IsKeptFirst, IsPlaceOf, IsRoundOf, IsTrial};
 
 use crate::known::{is_known, place_of_flag, raise_flag};
+use bit_answers::{Finding, decide_bit};
 use c_core::Program;
 use c_inductive::{as_many_are_picked, duties_name_invariants, failures_drop};
 use c_meaning::{DutyKind, PlacedInvariant};
 use circuits::Bit;
 use clauses::SpentAt;
-use judge_obligations::{Finding, decide_bit, failing_bits_tell};
+use judge_obligations::failing_bits_tell;
 use std::alloc::Global;
 use sym_duties::Obligations;
 use wv_base::{OutOfMemory, Seq};
@@ -84,8 +85,8 @@ fn ask(trial: &Trial, at: usize, place: u32, bit: Bit) -> Result<Found, OutOfMem
     let net = &trial.obligations.net;
     let _ = net.nodes();
     match decide_bit(trial.alloc, net, bit, trial.conflicts)? {
-        Finding::Holds(_) => Ok(Found::Holds),
-        Finding::Fails(_) => Ok(Found::Fails),
+        Finding::NeverTrue(_) => Ok(Found::Holds),
+        Finding::TrueUnder(_) => Ok(Found::Fails),
         Finding::Spent(spent) => Ok(Found::Spent(spent)),
     }
 }

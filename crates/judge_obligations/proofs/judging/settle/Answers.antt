@@ -3,7 +3,7 @@ use Rattle.c_core.specs.View.{program_view}
 use Rattle.c_meaning.specs.Placing.{placed_view}
 use Rattle.circuits.specs.Net.{holds}
 use Rattle.sym_state.specs.Standing.{draws_at}
-use Rattle.judge_obligations.specs.Deciding.{IsDecidedAs, inputs_of}
+use Rattle.bit_answers.specs.Deciding.{IsDecidedAs, inputs_of}
 use Rattle.judge_obligations.proofs.Verdicted.{small, inside, wide, other_shown, other_open}
 use Rattle.judge_obligations.proofs.judging.settle.Goals as goal
 
@@ -19,16 +19,16 @@ draws_under-requires c = record {
   wide = wide (program_view c.args.program.now) (placed_view c.args.invariants.now) c.args.obligations.now c.requires.promised c.as_slice-sites.result.now c.as_slice-sites.ensures;
 }
 
-pub returns-in_ok-draws-in-Fails-clause-settled : goal.returns-in_ok-draws-in-Fails-clause-settled
-returns-in_ok-draws-in-Fails-clause-settled c =
+pub returns-in_ok-draws-in-TrueUnder-clause-settled : goal.returns-in_ok-draws-in-TrueUnder-clause-settled
+returns-in_ok-draws-in-TrueUnder-clause-settled c =
     let p = program_view c.args.program.now in
     let o = c.args.obligations.now in
     let b = c.failing_at-bit.result in
-    let v = inputs_of c.in-Fails.values in
-    let on : holds v o.net b ≡ true = subst (IsDecidedAs c.args.conflicts o.net b) c.in-Fails.is c.in_ok-log.ensures in
-    let values : c.as_slice.result.now ≡ c.in-Fails.values = cc in
-    let drawn : c.in_ok-draws-in-Fails.draws ≡ draws_at p v o.net o.sites = c.in_ok-draws-in-Fails.ensures ∙ ap₂ (λ vs ds. draws_at p (inputs_of vs) o.net ds) values c.as_slice-sites.ensures in
-    other_shown p (placed_view c.args.invariants.now) o c.requires.promised c.args.conflicts c.args.at b v c.in_ok-draws-in-Fails.draws c.failed.result c.requires.before c.requires.within
+    let v = inputs_of c.in-TrueUnder.values in
+    let on : holds v o.net b ≡ true = subst (IsDecidedAs c.args.conflicts o.net b) c.in-TrueUnder.is c.in_ok-log.ensures in
+    let values : c.as_slice.result.now ≡ c.in-TrueUnder.values = cc in
+    let drawn : c.in_ok-draws-in-TrueUnder.draws ≡ draws_at p v o.net o.sites = c.in_ok-draws-in-TrueUnder.ensures ∙ ap₂ (λ vs ds. draws_at p (inputs_of vs) o.net ds) values c.as_slice-sites.ensures in
+    other_shown p (placed_view c.args.invariants.now) o c.requires.promised c.args.conflicts c.args.at b v c.in_ok-draws-in-TrueUnder.draws c.failed.result c.requires.before c.requires.within
     (sym c.failing_at-bit.ensures) on drawn c.failed.ensures
 
 pub returns-in-Spent-clause-settled : goal.returns-in-Spent-clause-settled

@@ -1,5 +1,5 @@
 use Rattle.std.proofs.Common.{sym, subst}
-use Rattle.judge_obligations.specs.Deciding.{IsDecidedAs, inputs_of}
+use Rattle.bit_answers.specs.Deciding.{IsDecidedAs, inputs_of}
 use Rattle.wv_weed.specs.Rounds.{invariants_of, left_of, program_of}
 use Rattle.wv_weed.proofs.Findings.{lost, still_open}
 use Rattle.wv_weed.proofs.rounds.ask.Goals as goal
@@ -19,24 +19,24 @@ decide_bit-requires-clause-room c =
     (sym c.requires.bit)).room
     c.nodes.ensures.fine
 
-pub returns-in-Holds : goal.returns-in-Holds
-returns-in-Holds c =
+pub returns-in-NeverTrue : goal.returns-in-NeverTrue
+returns-in-NeverTrue c =
     let t = c.args.trial.now in
     let shown =
-    subst (IsDecidedAs t.conflicts t.obligations.now.net c.args.bit) c.in-Holds.is c.in_ok-decide_bit.ensures in
+    subst (IsDecidedAs t.conflicts t.obligations.now.net c.args.bit) c.in-NeverTrue.is c.in_ok-decide_bit.ensures in
     shown.never
 
-pub returns-in-Fails : goal.returns-in-Fails
-returns-in-Fails c =
+pub returns-in-TrueUnder : goal.returns-in-TrueUnder
+returns-in-TrueUnder c =
     let t = c.args.trial.now in
     let o = t.obligations.now in
     let b = c.args.bit in
     let tells = c.failing_bits_tell.ensures (program_of t) (left_of t) o c.requires.trial.promised c.args.at b
     (sym c.requires.bit) in
-    let on = subst (IsDecidedAs t.conflicts o.net b) c.in-Fails.is c.in_ok-decide_bit.ensures in
+    let on = subst (IsDecidedAs t.conflicts o.net b) c.in-TrueUnder.is c.in_ok-decide_bit.ensures in
     lost t.conflicts (program_of t) (invariants_of t) t.left.now o c.args.at b tells c.requires.trial.left
     c.requires.trial.promised (c.failures_drop.ensures (program_of t) (invariants_of t)) c.args.place
-    (inputs_of c.in-Fails.field-0) c.requires.of on
+    (inputs_of c.in-TrueUnder.field-0) c.requires.of on
 
 pub returns : goal.returns
 returns c =

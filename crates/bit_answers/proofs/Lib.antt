@@ -1,0 +1,4 @@
+pub mod Found
+pub mod Numbers
+mod Drawn
+pub mod Spent

@@ -1,0 +1,14 @@
+use Rattle.c_core.specs.View.{program_view}
+use Rattle.seek_tests.proofs.Promised.{always_promised, error_brief, error_fits}
+use Rattle.seek_tests.proofs.answers.an_error_is_found.Goals as goal
+use Rattle.way_match.specs.View.{segments_view}
+
+pub program_of-requires : goal.program_of-requires
+program_of-requires c = error_fits
+
+pub answer-requires-clause-promised : goal.answer-requires-clause-promised
+answer-requires-clause-promised c =
+    always_promised (program_view c.in_ok-program.program) (segments_view c.in_ok-bound.bound) c.in_ok-reach.reach c.in_ok-bound.ensures c.in_ok-program.ensures c.in_ok-reach.ensures
+
+pub answer-requires-clause-brief : goal.answer-requires-clause-brief
+answer-requires-clause-brief c = error_brief (program_view c.in_ok-program.program) c.in_ok-program.ensures
