@@ -262,7 +262,7 @@ impl Search {
             let Some(place) = self.conflict.fixed.take_latest() else {
                 break;
             };
-            let literal = at(&self.values.trail, place as usize, NONE);
+            let literal = at(&self.values.trail, place, NONE);
             let variable = literal.variable();
             let reason = self.values.cause(variable).reason;
             self.conflict

@@ -29,14 +29,14 @@ impl Places {
     }
 
     // the latest place of a word with a bit, which is left out
-    fn take_from(&mut self, word: usize, bits: u64) -> u32 {
+    fn take_from(&mut self, word: usize, bits: u64) -> usize {
         let place = 63 - bits.leading_zeros().min(63);
         put(&mut self.words, word, bits & !(1 << place));
-        (word as u32).wrapping_mul(64).wrapping_add(place)
+        word.wrapping_mul(64).wrapping_add(place as usize)
     }
 
     /// Takes the latest place out, if there is one.
-    pub fn take_latest(&mut self) -> Option<u32> {
+    pub fn take_latest(&mut self) -> Option<usize> {
         for _ in 0..self.end {
             let word = self.end.wrapping_sub(1);
             let bits = at(&self.words, word, 0);
