@@ -12,7 +12,7 @@ pub struct Span {
     pub count: u32,
 }
 
-/// No clause has this index.
+/// No clause has this index; those of clauses are below 2^31.
 pub const NO_CLAUSE: u32 = 0xffff_ffff;
 
 /// The literals of all clauses, one after another.
@@ -59,7 +59,7 @@ impl Arena {
     /// Ends a clause of the last so many literals: its index.
     fn close(&mut self, count: usize) -> Result<u32, OutOfMemory> {
         let all = self.literals.len();
-        if all > 0xffff_fff0 || count > all || self.spans.len() >= 0xffff_fff0 {
+        if all > 0xffff_fff0 || count > all || self.spans.len() >= 1 << 31 {
             return Err(OutOfMemory);
         }
         let index = self.spans.len() as u32;
@@ -72,9 +72,7 @@ impl Arena {
 
     /// A clause more: its index.
     pub fn push(&mut self, literals: &[Lit]) -> Result<u32, OutOfMemory> {
-        for literal in literals {
-            self.literals.push(*literal)?;
-        }
+        self.literals.extend_from_slice(literals)?;
         self.close(literals.len())
     }
 
@@ -91,7 +89,7 @@ impl Arena {
     pub fn numbers(&self, alloc: Global, clause: u32) -> Result<Seq<i32>, OutOfMemory> {
         let span = self.span(clause);
         let first = span.start as usize;
-        let mut numbers = Vec::new(alloc);
+        let mut numbers = Vec::with_capacity(alloc, span.count as usize)?;
         for place in first..first + span.count as usize {
             numbers.push(self.literal(place).number())?;
         }

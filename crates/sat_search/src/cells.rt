@@ -23,9 +23,5 @@ pub fn put<T: Copy>(items: &mut [T], index: usize, item: T) {
 
 /// A table of equal items.
 pub fn filled<T: Copy>(alloc: Global, many: usize, item: T) -> Result<Vec<T>, OutOfMemory> {
-    let mut items = Vec::new(alloc);
-    for _ in 0..many {
-        items.push(item)?;
-    }
-    Ok(items)
+    Ok(vec![in alloc; item; many]?)
 }

@@ -1,6 +1,7 @@
 // What is derived from a conflict: the clause and the steps of its chain, on the way.
 use crate::cells::{at, filled, put};
 use crate::lit::Lit;
+use crate::places::Places;
 use clauses::Resolve;
 use std::alloc::Global;
 use wv_base::OutOfMemory;
@@ -29,8 +30,8 @@ pub struct Conflict {
     pub learned: Vec<Lit>,
     /// the steps of its chain
     pub steps: Vec<Resolve>,
-    /// how many variables of level 0 the chain meets
-    pub fixed: u32,
+    /// the places of the variables of level 0 that are to be resolved away
+    pub fixed: Places,
     /// how many marked literals of the latest level are left
     pub open: u32,
     /// places of redundant variables
@@ -50,7 +51,7 @@ impl Conflict {
             marked: Vec::new(alloc),
             learned: Vec::new(alloc),
             steps: Vec::new(alloc),
-            fixed: 0,
+            fixed: Places::new(alloc, variables as usize + 1)?,
             open: 0,
             places: Vec::new(alloc),
             stamps: filled(alloc, variables as usize + 1, 0)?,
@@ -98,7 +99,6 @@ impl Conflict {
         self.marked.clear();
         self.learned.clear();
         self.steps.clear();
-        self.fixed = 0;
         self.places.clear();
         self.open = 0;
         self.levels = 0;

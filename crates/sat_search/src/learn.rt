@@ -18,10 +18,11 @@ impl Search {
         if !self.conflict.is_unseen(literal.variable()) {
             return Ok(());
         }
-        let level = self.values.cause(literal.variable()).level;
+        let cause = self.values.cause(literal.variable());
+        let level = cause.level;
         self.conflict.mark(variable, Mark::Held)?;
         if level == 0 {
-            self.conflict.fixed = self.conflict.fixed.wrapping_add(1);
+            self.conflict.fixed.add(cause.place);
             return Ok(());
         }
         self.order.bump(variable);
@@ -257,19 +258,16 @@ impl Search {
 
     // resolves the literals of level 0 away, the latest first
     fn resolve_fixed(&mut self) -> Result<(), OutOfMemory> {
-        if self.conflict.fixed == 0 {
-            return Ok(());
-        }
-        let end = self.values.end_of(0);
-        for back in 0..end {
-            let literal = at(&self.values.trail, end - 1 - back, NONE);
+        for _ in 0..self.values.end_of(0) {
+            let Some(place) = self.conflict.fixed.take_latest() else {
+                break;
+            };
+            let literal = at(&self.values.trail, place, NONE);
             let variable = literal.variable();
-            if !self.conflict.is_unseen(variable) {
-                let reason = self.values.cause(variable).reason;
-                self.conflict
-                    .step(reason.wrapping_add(1), literal.code / 2)?;
-                self.meet_clause(reason, variable)?;
-            }
+            let reason = self.values.cause(variable).reason;
+            self.conflict
+                .step(reason.wrapping_add(1), literal.code / 2)?;
+            self.meet_clause(reason, variable)?;
         }
         Ok(())
     }

@@ -10,6 +10,7 @@ mod learn;
 mod lit;
 mod log;
 mod order;
+mod places;
 mod reduce;
 mod restart;
 mod search;

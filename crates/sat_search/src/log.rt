@@ -52,7 +52,8 @@ impl Log {
     }
 
     fn steps_of(&self, alloc: Global, chain: Derivation) -> Result<Seq<Resolve>, OutOfMemory> {
-        let mut steps = Vec::new(alloc);
+        let count = chain.end.saturating_sub(chain.begin);
+        let mut steps = Vec::with_capacity(alloc, count)?;
         for place in chain.begin..chain.end {
             steps.push(at(&self.steps, place, Resolve { with: 0, on: 0 }))?;
         }

@@ -2,7 +2,6 @@
 // on.
 use crate::cells::{at, put};
 use crate::search::Search;
-use crate::watches::{NO_WATCH, Watch};
 use std::alloc::Global;
 use wv_base::OutOfMemory;
 
@@ -108,26 +107,25 @@ impl Reduction {
 }
 
 impl Search {
-    // leaves the dropped clauses out of a list
-    fn filter_watches(&mut self, list: &mut Vec<Watch>) {
-        let mut kept = 0usize;
-        for place in 0..list.len() {
-            let watch = at(list, place, NO_WATCH);
-            if !at(&self.reduction.uses, watch.clause as usize, UNUSED).dropped {
-                put(list, kept, watch);
+    // leaves the dropped clauses out of what watches a literal
+    fn filter_watches(&mut self, literal: usize) {
+        let part = self.watches.part(literal);
+        let mut kept = 0u32;
+        for place in 0..part.count {
+            let watch = self.watches.get(part, place);
+            if !at(&self.reduction.uses, watch.clause() as usize, UNUSED).dropped {
+                self.watches.set(part, kept, watch);
                 kept = kept.wrapping_add(1);
             }
         }
-        list.truncate(kept);
+        self.watches.truncate(literal, kept);
     }
 
     /// Drops clauses, at level 0.
     pub fn reduce(&mut self) -> Result<(), OutOfMemory> {
         self.reduction.drop_half(self.alloc, self.given)?;
-        for index in 0..self.watches.count() {
-            let mut list = self.watches.take_at(self.alloc, index);
-            self.filter_watches(&mut list);
-            self.watches.give_back_at(index, list);
+        for literal in 0..self.watches.count() {
+            self.filter_watches(literal);
         }
         Ok(())
     }

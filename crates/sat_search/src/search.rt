@@ -1,6 +1,5 @@
 // The search: units by two watched literals of each clause, decisions by activity, and what conflicts teach.
 use crate::arena::{Arena, Span};
-use crate::cells::{at, put};
 use crate::conflict::Conflict;
 use crate::lit::Lit;
 use crate::log::Log;
@@ -8,7 +7,7 @@ use crate::order::Order;
 use crate::reduce::Reduction;
 use crate::restart::Restart;
 use crate::values::{Value, Values};
-use crate::watches::{NO_WATCH, Watch, Watches};
+use crate::watches::{Watch, Watches};
 use clauses::{Clause, Cnf, Refutation};
 use std::alloc::Global;
 use wv_base::{OutOfMemory, Seq};
@@ -63,23 +62,13 @@ impl Search {
 
     /// Watches the first two literals of a clause.
     pub fn attach(&mut self, clause: u32) -> Result<(), OutOfMemory> {
-        let first = self.arena.span(clause).start as usize;
+        let span = self.arena.span(clause);
+        let first = span.start as usize;
         let one = self.arena.literal(first);
         let other = self.arena.literal(first + 1);
-        self.watches.add(
-            one,
-            Watch {
-                clause,
-                blocker: other,
-            },
-        )?;
-        self.watches.add(
-            other,
-            Watch {
-                clause,
-                blocker: one,
-            },
-        )
+        self.watches
+            .add(one, Watch::new(clause, span.count, other))?;
+        self.watches.add(other, Watch::new(clause, span.count, one))
     }
 
     /// Makes the literal of a unit clause true: whether it was false.
@@ -95,9 +84,18 @@ impl Search {
         }
     }
 
+    // puts the variables of a clause into the order: those that no clause has are never decided
+    fn order_variables(&mut self, clause: &Clause) -> Result<(), OutOfMemory> {
+        for number in clause.numbers().as_slice() {
+            self.order.insert(number.unsigned_abs())?;
+        }
+        Ok(())
+    }
+
     // a given clause: whether all its literals are false
     fn add_given(&mut self, clause: &Clause) -> Result<Option<u32>, OutOfMemory> {
         let index = self.arena.push_given(clause)?;
+        self.order_variables(clause)?;
         self.reduction.add(0)?;
         self.given = index.wrapping_add(1);
         let count = clause.numbers().len();
@@ -170,7 +168,7 @@ impl Search {
 
     // looks at a clause, one of whose watched literals became false
     fn visit(&mut self, watch: Watch, gone: Lit) -> Result<Visit, OutOfMemory> {
-        let clause = watch.clause;
+        let clause = watch.clause();
         let span = self.arena.span(clause);
         let first = span.start as usize;
         let mut other = self.arena.literal(first);
@@ -179,10 +177,7 @@ impl Search {
             self.arena.set_literal(first, other);
             self.arena.set_literal(first + 1, gone);
         }
-        let kept = Watch {
-            clause,
-            blocker: other,
-        };
+        let kept = watch.by(other);
         if self.values.is_true(other) {
             return Ok(Visit::Kept(kept));
         }
@@ -200,29 +195,49 @@ impl Search {
         Ok(Visit::Kept(kept))
     }
 
+    // the same of a clause of two literals, the other of which isn't true
+    #[inline(always)]
+    fn visit_pair(&mut self, watch: Watch) -> Result<Visit, OutOfMemory> {
+        if self.values.is_false(watch.blocker) {
+            return Ok(Visit::Conflict(watch));
+        }
+        self.values.assign(watch.blocker, watch.clause())?;
+        Ok(Visit::Kept(watch))
+    }
+
+    #[inline(always)]
+    fn visit_one(&mut self, watch: Watch, gone: Lit) -> Result<Visit, OutOfMemory> {
+        if self.values.is_true(watch.blocker) {
+            return Ok(Visit::Kept(watch));
+        }
+        if watch.is_pair() {
+            return self.visit_pair(watch);
+        }
+        self.visit(watch, gone)
+    }
+
     // looks at all clauses that watch a literal, which became false: a conflict
     fn visit_all(&mut self, gone: Lit) -> Result<Option<u32>, OutOfMemory> {
-        let mut list = self.watches.take(self.alloc, gone);
+        let part = self.watches.part(gone.index());
         let mut conflict = None;
-        let mut kept = 0usize;
-        for place in 0..list.len() {
-            let watch = at(&list, place, NO_WATCH);
+        let mut kept = 0u32;
+        for place in 0..part.count {
+            let watch = self.watches.get(part, place);
             let mut stays = watch;
-            if conflict.is_none() && !self.values.is_true(watch.blocker) {
-                match self.visit(watch, gone)? {
+            if conflict.is_none() {
+                match self.visit_one(watch, gone)? {
                     Visit::Kept(next) => stays = next,
                     Visit::Moved => continue,
                     Visit::Conflict(next) => {
                         stays = next;
-                        conflict = Some(watch.clause);
+                        conflict = Some(watch.clause());
                     }
                 }
             }
-            put(&mut list, kept, stays);
+            self.watches.set(part, kept, stays);
             kept = kept.wrapping_add(1);
         }
-        list.truncate(kept);
-        self.watches.give_back(gone, list);
+        self.watches.truncate(gone.index(), kept);
         Ok(conflict)
     }
 
@@ -281,7 +296,7 @@ impl Search {
         Ok(None)
     }
 
-    // the values of the variables in order
+    // the values of the variables in order; one that no clause has is open, and false here
     fn model(&self) -> Result<Seq<bool>, OutOfMemory> {
         let mut values = Seq::new(self.alloc);
         for variable in 1..self.many {
