@@ -9,3 +9,4 @@ mod walk;
 
 pub use laws::{duties_are_in_order, duties_differ, failing_runs_fail_at_duties};
 pub use obligations::duties;
+pub use violating::node_may_overflow;

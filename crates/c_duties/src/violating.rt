@@ -36,7 +36,8 @@ fn may_overflow(model: DataModel, op: BinOp, a: IntType, b: IntType) -> bool
     overflows(op) && signed(type_for(model, op, a, b))
 }
 
-fn node_may_overflow(model: DataModel, node: &Node) -> bool
+/// Whether a node computes by an operator that can overflow.
+pub fn node_may_overflow(model: DataModel, node: &Node) -> bool
     ensures { result ≡ of_duties.node_may_overflow model (node_view node.now) }
 {
     match node {

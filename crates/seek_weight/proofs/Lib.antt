@@ -1,3 +1,6 @@
+pub mod Arms
 pub mod Enough
 mod Light
 pub mod Paid
+pub mod Sums
+pub mod Tolling

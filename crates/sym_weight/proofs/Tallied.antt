@@ -66,12 +66,12 @@ test_weight p e =
     without_calls (expression p owning e).weight (sum_over (λ f. 0) (expression p owning e).calls) (expression p (weighing (λ f. 0)) e) (nothing_called (expression p owning e).calls)
     (related_expression p owning (weighing (λ f. 0)) (λ o a. o.weight + sum_over (λ f. 0) o.calls ≡ a) (weight_relates (λ f. 0)) e)
 
-capped_evaluation : (c w t n : ℕ) → c ≡ capped w → n ≡ capped (c + (64 + t)) → n ≡ capped (64 + (w + t))
-capped_evaluation c w t n e h = omega arith
+-- an expression by itself
+pub weighed : (p : Program) (e : Exp) (c : Cost) → c ≡ (expression p tallying e).cost → c.weight ≡ capped (expression p (weighing (λ f. 0)) e)
+weighed p e c is =
+    let told = related_expression p tallying owning Tells tally_relates e in
+    ap (λ x. x.weight) is ∙ ap (λ x. x.weight) told.0 ∙ ap capped (test_weight p e)
 
 -- an invariant's evaluation
-pub evaluated : (p : Program) (e : Exp) (c : Cost) (n : ℕ) → c ≡ (expression p tallying e).cost → n ≡ capped (c.weight + (64 + tested p.model e)) → n ≡ capped (evaluation p e)
-evaluated p e c n is h =
-    let told = related_expression p tallying owning Tells tally_relates e in
-    capped_evaluation c.weight (expression p (weighing (λ f. 0)) e) (tested p.model e) n
-    (ap (λ x. x.weight) is ∙ ap (λ x. x.weight) told.0 ∙ ap capped (test_weight p e)) h
+pub evaluated : (c w t n : ℕ) → c ≡ capped w → n ≡ capped (c + (64 + t)) → n ≡ capped (64 + (w + t))
+evaluated c w t n e h = omega arith

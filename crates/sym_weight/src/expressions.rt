@@ -4,12 +4,14 @@ ghost use Rattle.c_core.specs.View.{expr_view, expr_view_if, exprs_view, node_vi
 ghost use Rattle.sym_weight.specs.Sum as sums;
 ghost use Rattle.sym_weight.specs.Table as table;
 ghost use Rattle.sym_weight.specs.Tally as tally;
-ghost use Rattle.sym_weight.specs.Tally.{tallying};
+ghost use Rattle.sym_weight.specs.Tally.{capped, tallying};
+ghost use Rattle.sym_weight.specs.Weight.{weighing};
 
 use crate::cost::{Cost, draws, nothing, plus, weighs};
 use crate::table::{node_bits, node_work, stored};
 use c_core::{Callee, DataModel, Expr, IntType, Node, Program};
 use c_meaning::{type_of, type_of_object};
+use std::alloc::Global;
 use wv_base::OutOfMemory;
 
 // An argument, where there is one for the parameter.
@@ -55,6 +57,21 @@ fn params_of(program: &Program, function: u32) -> &[u32]
         Some(function) => function.params.as_slice(),
         None => &[],
     }
+}
+
+/// What the arguments of a call weigh as they are put into the parameters of a function, by its number.
+pub fn parameters_weight(program: &Program, function: u32, args: &[Expr]) -> u64
+    ensures { result ≡ capped (table.passed (program_view program.now)
+        (table.params_of (slice_get (program_view program.now).functions function)) (exprs_view args.now)) }
+{
+    passed(program, params_of(program, function), args).weight
+}
+
+/// What the argument of `exit` weighs as it is put into the parameter.
+pub fn exit_weight(model: DataModel, args: &[Expr]) -> u64
+    ensures { result ≡ capped (table.passed_to_exit model (exprs_view args.now)) }
+{
+    passed_to_exit(model, args).weight
 }
 
 fn called(
@@ -189,4 +206,14 @@ fn arguments(program: &Program, calls: &mut Vec<u32>, args: &[Expr]) -> Result<C
         sum = plus(sum, value);
     }
     Ok(sum)
+}
+
+/// What an expression weighs without the bodies of the functions that it calls.
+pub fn weight_of(alloc: Global, program: &Program, e: &Expr) -> Result<u64, OutOfMemory>
+    ensures { IfOk result (λ w. w ≡ capped (sums.expression (program_view program.now) (weighing (λ f. 0))
+        (expr_view e.now))) }
+{
+    let mut calls = Vec::new(alloc);
+    let cost = expression(program, &mut calls, e)?;
+    Ok(cost.weight)
 }

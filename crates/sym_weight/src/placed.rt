@@ -9,7 +9,7 @@ ghost use Rattle.sym_weight.specs.Tally.{capped};
 ghost use Rattle.c_meaning.specs.Placing.{placed, placed_view};
 ghost use Rattle.sym_weight.specs.Weight as weight;
 
-use crate::expressions::expression;
+use crate::expressions::weight_of;
 use crate::table::tested;
 use c_core::{Expr, Program, Spot};
 use c_meaning::PlacedInvariant;
@@ -20,7 +20,7 @@ use wv_base::OutOfMemory;
 /// Weights by line and column.
 pub type Weights = BTreeMap<(u32, u32), u64>;
 
-/// What the invariants at a place weigh.
+/// The weight at a place, 0 where there is none.
 pub fn weight_at(weights: &Weights, spot: Spot) -> u64
     ensures { result ≡ tally.weight_at weights.now spot }
 {
@@ -30,12 +30,12 @@ pub fn weight_at(weights: &Weights, spot: Spot) -> u64
 fn evaluation(alloc: Global, program: &Program, e: &Expr) -> Result<u64, OutOfMemory>
     ensures { IfOk result (λ w. w ≡ capped (weight.evaluation (program_view program.now) (expr_view e.now))) }
 {
-    let mut calls = Vec::new(alloc);
-    let cost = expression(program, &mut calls, e)?;
-    Ok(cost.weight.saturating_add(64 + tested(program.model, e)))
+    let weight = weight_of(alloc, program, e)?;
+    Ok(weight.saturating_add(64 + tested(program.model, e)))
 }
 
-fn add_weight(weights: &mut Weights, spot: Spot, weight: u64) -> Result<(), OutOfMemory>
+/// A weight more at a place.
+pub fn add_weight(weights: &mut Weights, spot: Spot, weight: u64) -> Result<(), OutOfMemory>
     ensures { OnOk result ((q : Spot) → tally.weight_at weights.new q
         ≡ cond (same_spot spot q) (capped (tally.weight_at weights.old q + weight)) (tally.weight_at weights.old q)) }
 {

@@ -129,7 +129,8 @@ fn chosen(model: DataModel, ty: Option<IntType>) -> u64
     }
 }
 
-fn operation(model: DataModel, op: BinOp, a: IntType, b: IntType) -> u64
+/// A binary operator with the conversions of its sides.
+pub fn operation(model: DataModel, op: BinOp, a: IntType, b: IntType) -> u64
     ensures value { result ≡ table.operation model op a b }
     ensures bound { result < 2 ^ 19 }
 {
