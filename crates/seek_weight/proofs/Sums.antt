@@ -11,6 +11,9 @@ sum_of a b x y r h k e = omega arith
 pub sum_of_three : (a b c x y z s r : ℕ) → a ≡ capped x → b ≡ capped y → c ≡ capped z → s ≡ capped (b + c) → r ≡ capped (a + s) → r ≡ capped (x + (y + z))
 sum_of_three a b c x y z s r h k l e f = omega arith
 
+pub sum_of_four : (a b c d w x y z s t r : ℕ) → a ≡ capped w → b ≡ capped x → c ≡ capped y → d ≡ capped z → s ≡ capped (c + d) → t ≡ capped (b + s) → r ≡ capped (a + t) → r ≡ capped (w + (x + (y + z)))
+sum_of_four a b c d w x y z s t r h k l m e f g = omega arith
+
 -- one part more of what is left
 pub sum_on : (sum part x rest new whole : ℕ) → part ≡ capped x → new ≡ capped (sum + part) → capped (sum + (x + rest)) ≡ whole → capped (new + rest) ≡ whole
 sum_on sum part x rest new whole h e w = omega arith

@@ -1,10 +1,10 @@
 // The test that refuses a bound before any circuit is made.
-ghost use Rattle.std.specs.Prelude.{◌≡◌, Some, IfOk};
-ghost use Rattle.c_core.specs.TreeView.{function_view};
+ghost use Rattle.std.specs.Prelude.{◌≡◌, map, IfOk};
+ghost use Rattle.c_core.specs.TreeView.{function_view, functions_view};
 ghost use Rattle.c_core.specs.View.{program_view};
 ghost use Rattle.seek_weight.specs.SeekWeight as sums;
 ghost use Rattle.seek_weight.specs.Weighed.{WeighsToSeek, judged};
-ghost use Rattle.seek_weight.specs.inside.Weighing.{AreTolls, AreTotals, IsReady, in_walk, program_in, segments_in};
+ghost use Rattle.seek_weight.specs.inside.Weighing.{AreTolls, AreTotals, IsReady, comes_to, program_in, segments_in};
 ghost use Rattle.sym_weight.specs.Tally.{capped};
 ghost use Rattle.way_match.specs.View.{each_segment_view, segments_view};
 
@@ -19,9 +19,20 @@ use wv_base::OutOfMemory;
 
 fn function_weight(walk: Walk, function: &Function) -> u64
     requires { IsReady walk }
-    ensures { result ≡ capped (in_walk sums.function_of walk.entry (Some (function_view function.now))) }
+    ensures { result ≡ comes_to walk.entry (function_view function.now) }
 {
     function_body(walk, function.result, &function.body)
+}
+
+fn totals_of(alloc: Global, walk: Walk, functions: &[Function]) -> Result<Vec<u64>, OutOfMemory>
+    requires { IsReady walk }
+    ensures { IfOk result (λ all. all.items ≡ map (comes_to walk.entry) (functions_view functions.now)) }
+{
+    let mut all = Vec::new(alloc);
+    for function in functions {
+        all.push(function_weight(walk, function))?;
+    }
+    Ok(all)
 }
 
 // What each function comes to.
@@ -30,10 +41,8 @@ fn totals(alloc: Global, walk: Walk) -> Result<Vec<u64>, OutOfMemory>
     ensures { IfOk result (λ all. AreTotals (program_in walk.entry) (segments_in walk.entry) walk.entry.turns
         walk.entry.depth all.items) }
 {
-    let mut all = Vec::new(alloc);
-    for function in walk.program.functions.as_slice() {
-        all.push(function_weight(walk, function))?;
-    }
+    let functions = walk.program.functions.as_slice();
+    let all = totals_of(alloc, walk, functions)?;
     Ok(all)
 }
 

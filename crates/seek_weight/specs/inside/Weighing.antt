@@ -1,13 +1,13 @@
 -- Weights as they are counted: with the tolls of places in maps, and with what functions come to one call less deep.
 use Rattle.std.specs.Prelude.{◌≡◌, ℕ, zero, suc, ◌+◌, List, Option, Some, None, slice_get}
-use Rattle.c_core.specs.Tree.{Exp, Program}
+use Rattle.c_core.specs.Tree.{Function, Program}
 use Rattle.c_core.specs.View.{program_view}
 use Rattle.c_core.specs.declared.number.Spot.{Spot}
 use Rattle.sym_weight.specs.Tally.{capped, weight_at}
 use Rattle.way_match.specs.Points.{Point, BoundSegment}
 use Rattle.way_match.specs.View.{each_segment_view}
 use Rattle.seek_weight.specs.Tolls.{Happening, AStatement, ATest, ACall, passage, placed_weight, points_of}
-use Rattle.seek_weight.specs.SeekWeight.{Count, weights, count_in}
+use Rattle.seek_weight.specs.SeekWeight.{Count, weights, function_of, count_in}
 use Rattle.seek_weight.specs.declared.tolls.Tolls.{Tolls}
 use Rattle.seek_weight.specs.declared.walk.Walk.{Walk}
 
@@ -62,6 +62,10 @@ module _ (w : Walk) where
 -- what the definition of a sum gives in a walk
 abbrev pub in_walk : {A : Type 0} → (Program → Count → ℕ → (ℕ → ℕ → ℕ) → A) → Walk → A
 in_walk sum w = sum (program_in w) (weights_in w) w.turns (beneath_in w)
+
+-- what a function comes to in a walk
+abbrev pub comes_to : Walk → Function → ℕ
+comes_to w f = capped (in_walk function_of w (Some f))
 
 -- a walk has the tolls of its segments, and what functions come to one call less deep, where there are calls
 pub record IsReady (w : Walk) : Type 0 where
