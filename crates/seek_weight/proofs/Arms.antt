@@ -7,7 +7,7 @@ use Rattle.c_core.specs.declared.tree.Arm.{Arm, out-Arm}
 use Rattle.c_core.specs.declared.tree.Stmt.{Stmt}
 use Rattle.c_core.proofs.ArmLaws.{arms_from}
 use Rattle.sym_weight.specs.Tally.{capped}
-use Rattle.seek_weight.specs.SeekWeight.{Count, statement, statements}
+use Rattle.seek_weight.specs.SeekWeight.{Count, statements}
 use Rattle.seek_weight.proofs.Sums.{sum_on}
 
 module _ (p : Program) (C : Count) (k : ℕ) (body : ℕ → ℕ → ℕ) (result : Option IntType) where
