@@ -1,3 +1,5 @@
 pub mod Tolls
 pub mod SeekWeight
 pub mod Laws
+pub mod Weighed
+pub mod inside

@@ -2,6 +2,12 @@
 //! bits they draw, and what a weight that isn't too big says of them.
 #![tactic(auto)]
 
+mod expressions;
 mod laws;
+mod limits;
+mod statements;
+mod tolls;
+mod walk;
 
 pub use laws::{decided_within_weight, draws_are_light, steps_are_light};
+pub use limits::weigh;
