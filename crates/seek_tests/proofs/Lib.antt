@@ -1,3 +1,3 @@
 pub mod Promised
-pub mod Programs
+pub mod Written
 pub mod Nets
