@@ -1,3 +1,0 @@
-pub mod Promised
-pub mod Written
-pub mod Nets
