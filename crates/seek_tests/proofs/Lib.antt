@@ -1,3 +1,0 @@
-pub mod Promised
-pub mod Programs
-pub mod Nets
