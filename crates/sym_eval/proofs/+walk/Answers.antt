@@ -1,7 +1,7 @@
 use mir.Val.{SFits, to_z, of_z}
 use mir.Syntax.{w128}
 use Rattle.std.proofs.lemmas.Int.{to_z-of_z}
-use Rattle.std.proofs.Common.{rules, cond, ◌≡◌, ◌∙◌, refl, sym, ap, ap₂, subst, arith, None, Some, length, vec_len, IfOk, IsTrue, ◌+◌, ◌*◌, take, ◌<◌, ◌^◌, ◌-◌, false, get_or, map, not, true}
+use Rattle.std.proofs.Common.{rules, cond, ◌≡◌, ◌∙◌, refl, sym, ap, ap₂, subst, arith, None, Some, length, vec_len, IfOk, IsTrue, ◌+◌, ◌*◌, take, ◌<◌, ◌^◌, ◌-◌, false, get_or, map, not}
 use Rattle.c_core.specs.Operators.{type_for, op_of_step, is_prefix}
 use Rattle.c_core.specs.Tree.{Expr, Const, Var, Index, Unary, Cast, Step, Binary, Logic, Choose, Comma, Assign, Call, MoreExp, NoExp, Many, Rows, FirstNames, Return, Declare, Block, If, Label, OrElse, While, DoWhile, For, Switch}
 use Rattle.c_core.specs.View.{expr_view, exprs_view, node_view, init_view, names_view, rows_view, first_view, expr_view_if, form_view, stmt_view, stmts_view, function_view, switch_view}
@@ -13,7 +13,7 @@ use Rattle.c_meaning.specs.declared.run.Event.TheVariants.{Branch, Enter, Return
 use Rattle.c_meaning.specs.declared.run.Way.TheVariants.{Truth}
 use Rattle.c_meaning.specs.Run.{way_for}
 use Rattle.c_meaning.specs.Meaning.{Used, Unused, WhileLoop, DoLoop, ForLoop}
-use Rattle.c_meaning.specs.Objects.{type_of, type_or_int}
+use Rattle.c_meaning.specs.Objects.{type_of}
 use Rattle.sym_state.proofs.Nets.{unchanged, added_of, in_added, longer_by, state_grown}
 use Rattle.sym_exprs.specs.Evaluating.{use_of, weight_of, Ready, Values}
 use Rattle.sym_exprs.specs.Targeting.{weight_of_target, TargetReady}

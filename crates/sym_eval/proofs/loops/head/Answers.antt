@@ -1,8 +1,7 @@
-use Rattle.std.proofs.Common.{◌∙◌, true, arith}
+use Rattle.std.proofs.Common.{◌∙◌, true}
 use Rattle.c_calls.specs.Loops.{loop_of}
 use Rattle.c_core.specs.View.{form_view}
 use Rattle.c_meaning.specs.Duties.{Duties}
-use Rattle.sym_state.proofs.Nets.{longer_by}
 use Rattle.sym_weight.specs.Weight.{placed_weight}
 use Rattle.sym_invariants.specs.Walking.{program_of, invariants_of}
 use Rattle.sym_eval.proofs.Turns.{head_does, draws_room, assumed_room}

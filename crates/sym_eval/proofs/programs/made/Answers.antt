@@ -1,4 +1,4 @@
-use Rattle.std.proofs.Common.{rules, [], suc, length, sym, subst, arith}
+use Rattle.std.proofs.Common.{rules, [], suc, length, sym, subst}
 use Rattle.std.specs.List.{All}
 use Rattle.c_core.specs.View.{program_view}
 use Rattle.c_meaning.specs.Placing.{placed_view}

@@ -1,7 +1,6 @@
-use Rattle.std.proofs.Common.{rules, ◌≡◌, ◌∙◌, refl, sym, ap, subst, arith}
-use Rattle.std.specs.Prelude.{Some, slice_get, length}
+use Rattle.std.proofs.Common.{rules, ◌∙◌, refl, ap, arith}
+use Rattle.std.specs.Prelude.{Some, length}
 use Rattle.c_core.specs.View.{program_view}
-use Rattle.sym_duties.specs.Answers.{names_of}
 use Rattle.sym_eval.proofs.Wholly.{recursive_within, named_at}
 use Rattle.sym_eval.proofs.programs.recursive.Goals as goal
 

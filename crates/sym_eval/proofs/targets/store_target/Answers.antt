@@ -1,4 +1,4 @@
-use Rattle.std.proofs.Common.{◌≡◌, ◌∙◌, ◌+◌, ◌<◌, ◌^◌, sym, ap, subst, arith, Some, length}
+use Rattle.std.proofs.Common.{◌≡◌, ◌∙◌, ◌+◌, ◌<◌, ◌^◌, sym, ap, subst, Some, length}
 use Rattle.c_core.specs.View.{program_view}
 use Rattle.c_meaning.specs.Objects.{type_of_object}
 use Rattle.sym_values.specs.Valuing.{Gives}
