@@ -3,4 +3,4 @@
 
 mod violation;
 
-pub use violation::judge_violation;
+pub use violation::{judge_over, judge_violation};

@@ -8,12 +8,13 @@ use c_core::Program;
 use c_meaning::{Cause, End, Reason, Run, Verdict};
 use flow_machine::run_machine;
 use std::alloc::Global;
-use way_match::{Bound, Matcher, given};
+use way_match::{Bound, Matcher, given_over};
+use way_places::Index;
 use wv_base::{OutOfMemory, Seq};
 
 /// The verdict on the run of a program that draws the values of a violation sequence, with a budget of steps.
 ///
-/// Example: `judge_sequence` in `crates/witval/src/sequence.rt`.
+/// Example: `judge_over`, below, is the same with an index that is made before.
 pub fn judge_violation(
     alloc: Global,
     program: &Program,
@@ -22,9 +23,24 @@ pub fn judge_violation(
 ) -> Result<Verdict, OutOfMemory>
     ensures { IfOk result (IsRightVerdict steps (program_view program.now) (segments_view bound.now)) }
 {
-    let choices = given(alloc, bound, program)?;
-    let mut matcher = Matcher::new(alloc, bound, program)?;
-    let run = run_machine(alloc, program, &choices, steps, &mut matcher)?;
+    let index = Index::new(alloc, program)?;
+    judge_over(alloc, &index, bound, steps)
+}
+
+/// The same verdict, on a program that is indexed.
+///
+/// Example: `judge_bound` in `crates/witval/src/sequence.rt`.
+pub fn judge_over(
+    alloc: Global,
+    index: &Index,
+    bound: &Bound,
+    steps: u64,
+) -> Result<Verdict, OutOfMemory>
+    ensures { IfOk result (IsRightVerdict steps (program_view index.now) (segments_view bound.now)) }
+{
+    let choices = given_over(alloc, bound, index)?;
+    let mut matcher = Matcher::over(alloc, bound, index)?;
+    let run = run_machine(alloc, index.program(), &choices, steps, &mut matcher)?;
     let found = matcher.done();
     Ok(verdict(run, found, steps))
 }

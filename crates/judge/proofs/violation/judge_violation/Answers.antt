@@ -1,8 +1,10 @@
-use Rattle.std.proofs.Common.{refl}
-use Rattle.judge.proofs.Judged.{judged}
+use Rattle.std.proofs.Common.{subst, IfOk}
+use Rattle.c_core.specs.View.{program_view}
+use Rattle.c_core.specs.declared.program.Program.{Program}
+use Rattle.way_match.specs.Verdicts.{IsRightVerdict}
+use Rattle.way_match.specs.View.{segments_view}
 use Rattle.judge.proofs.violation.judge_violation.Goals as goal
 
 pub returns : goal.returns
 returns c =
-    judged c.args.program.now c.args.bound.now c.args.steps c.in_ok-choices.choices c.in_ok-run.run' c.in_ok-matcher.matcher c.run_machine.new.watcher c.done-found.result c.verdict.result
-    c.in_ok-choices.ensures c.in_ok-run.ensures.run c.in_ok-matcher.ensures c.in_ok-run.ensures.seen c.done-found.ensures.exact c.verdict.ensures
+    subst (λ (p : Program). IfOk c.judge_over.result (IsRightVerdict c.args.steps (program_view p) (segments_view c.args.bound.now))) c.in_ok-index.ensures c.judge_over.ensures
