@@ -48,8 +48,8 @@ impl<'a> NamedObjects<'a> {
         let walk = in_functions(alloc, program.functions.as_slice())?;
         let before = of_statics(alloc, &keys, statics.as_slice())?;
         let nested = of_scopes(alloc, &keys, walk.scopes.as_slice())?;
-        let statements = firsts(alloc, walk.statements.as_slice())?;
-        let loops = firsts(alloc, walk.loops.as_slice())?;
+        let statements = firsts(walk.statements)?;
+        let loops = firsts(walk.loops)?;
         Ok(NamedObjects {
             program,
             keys,

@@ -64,8 +64,8 @@ impl<'a> Names<'a> {
     {
         let statics = statics(alloc, program.objects.as_slice())?;
         let walk = in_functions(alloc, program.functions.as_slice())?;
-        let statements = firsts(alloc, walk.statements.as_slice())?;
-        let loops = firsts(alloc, walk.loops.as_slice())?;
+        let statements = firsts(walk.statements)?;
+        let loops = firsts(walk.loops)?;
         Ok(Names {
             program,
             statics,
