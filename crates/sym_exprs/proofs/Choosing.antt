@@ -210,7 +210,7 @@ module _ (p : Program) (W : Mode) (n : ℕ) (at : Around) where
   pub choose_values : {s x x2 x3 y y2 z z2 m : Sym} {es xs cs ys ds rs : List Bit} (j : ℕ) (spot mark : Spot) (to : IntType) (e a b : Exp) (go other : Bit)
       → Ready p W n at s (Expr spot (Some to) (Choose mark e a b)) → Values p W n at Used e s x es
       → Decided p (conversion_cost p.model (type_of e) BoolType) x x2 go (λ v. not (is_zero (typed p.model (type_of e) v x.net es))) → other ≡ opposite go
-      → Turned p j 0 x2 x3 (λ v. telling W (Branch mark (Truth (not (is_zero (typed p.model (type_of e) v x.net es)))))) → j ≤ 4
+      → Turned p j 0 x2 x3 (λ v. telling W (Branch mark (Truth (not (is_zero (typed p.model (type_of e) v x.net es)))))) → j ≤ W.scale.test mark
       → ValuesWhere p W n at go a x3 y xs → Reckoned p (conversion_cost p.model (type_of a) to) y y2 to cs (λ v. fit p.model to (typed p.model (type_of a) v y.net xs))
       → ValuesWhere p W n at other b y2 z ys → Reckoned p (conversion_cost p.model (type_of b) to) z z2 to ds (λ v. fit p.model to (typed p.model (type_of b) v z.net ys))
       → Reckoned p (4 * width_of p.model to) z2 m to rs (λ v. cond (holds v z2.net go) (typed p.model to v z2.net cs) (typed p.model to v z2.net ds))
@@ -308,7 +308,7 @@ module _ (p : Program) (W : Mode) (n : ℕ) (at : Around) where
   void_values : {s x x2 x3 y z : Sym} {es xs ys : List Bit} (j : ℕ) (spot mark : Spot) (e a b : Exp) (go other : Bit)
       → Ready p W n at s (Expr spot None (Choose mark e a b)) → Values p W n at Used e s x es
       → Decided p (conversion_cost p.model (type_of e) BoolType) x x2 go (λ v. not (is_zero (typed p.model (type_of e) v x.net es))) → other ≡ opposite go
-      → Turned p j 0 x2 x3 (λ v. telling W (Branch mark (Truth (not (is_zero (typed p.model (type_of e) v x.net es)))))) → j ≤ 4
+      → Turned p j 0 x2 x3 (λ v. telling W (Branch mark (Truth (not (is_zero (typed p.model (type_of e) v x.net es)))))) → j ≤ W.scale.test mark
       → ValuesWhere p W n at go a x3 y xs → ValuesWhere p W n at other b y z ys → Values p W n at Used (Expr spot None (Choose mark e a b)) s z ys
   void_values {s} {x} {x2} {x3} {y} {z} {es} {xs} {ys} j spot mark e a b go other h ge d eo ev few wa wb =
       let whole = Expr spot None (Choose mark e a b) in
@@ -441,7 +441,7 @@ module _ (p : Program) (W : Mode) (n : ℕ) (at : Around) where
   pub pick_step : {s x x2 x3 y y2 z z2 m : Sym} {es xs cs ys ds rs : List Bit} (j : ℕ) (spot mark : Spot) (to : IntType) (e a b : Exp) (te ta tb : IntType) (go other : Bit) → te ≡ type_of e → ta ≡ type_of a → tb ≡ type_of b
       → Ready p W n at s (Expr spot (Some to) (Choose mark e a b)) → Values p W n at Used e s x es
       → Decided p (conversion_cost p.model te BoolType) x x2 go (λ v. not (is_zero (typed p.model te v x.net es))) → other ≡ opposite go
-      → Turned p j 0 x2 x3 (λ v. telling W (Branch mark (Truth (not (is_zero (typed p.model te v x.net es)))))) → j ≤ 4
+      → Turned p j 0 x2 x3 (λ v. telling W (Branch mark (Truth (not (is_zero (typed p.model te v x.net es)))))) → j ≤ W.scale.test mark
       → ValuesWhere p W n at go a x3 y xs → Reckoned p (conversion_cost p.model ta to) y y2 to cs (λ v. fit p.model to (typed p.model ta v y.net xs))
       → ValuesWhere p W n at other b y2 z ys → Reckoned p (conversion_cost p.model tb to) z z2 to ds (λ v. fit p.model to (typed p.model tb v z.net ys))
       → Reckoned p (4 * width_of p.model to) z2 m to rs (λ v. cond (holds v z2.net go) (typed p.model to v z2.net cs) (typed p.model to v z2.net ds))
@@ -464,7 +464,7 @@ module _ (p : Program) (W : Mode) (n : ℕ) (at : Around) where
 
   pub void_step : {s x x2 x3 y z : Sym} {es xs ys : List Bit} (j : ℕ) (spot mark : Spot) (e a b : Exp) (te : IntType) (go other : Bit) → te ≡ type_of e → Ready p W n at s (Expr spot None (Choose mark e a b)) → Values p W n at Used e s x es
       → Decided p (conversion_cost p.model te BoolType) x x2 go (λ v. not (is_zero (typed p.model te v x.net es))) → other ≡ opposite go
-      → Turned p j 0 x2 x3 (λ v. telling W (Branch mark (Truth (not (is_zero (typed p.model te v x.net es)))))) → j ≤ 4
+      → Turned p j 0 x2 x3 (λ v. telling W (Branch mark (Truth (not (is_zero (typed p.model te v x.net es)))))) → j ≤ W.scale.test mark
       → ValuesWhere p W n at go a x3 y xs → ValuesWhere p W n at other b y z ys → Values p W n at Used (Expr spot None (Choose mark e a b)) s z ys
   void_step {s} {x} {x2} {x3} {y} {z} {es} j spot mark e a b te go other ee h ge d eo ev few wa wb =
       void_values j spot mark e a b go other h ge (subst (λ t. Decided p (conversion_cost p.model t BoolType) x x2 go (λ v. not (is_zero (typed p.model t v x.net es)))) ee d) eo
