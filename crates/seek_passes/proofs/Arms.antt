@@ -11,12 +11,14 @@ use Rattle.c_core.specs.View.{switch_view}
 use Rattle.c_core.specs.declared.tree.Arm.{Arm}
 use Rattle.c_core.specs.declared.tree.Label.{Label as ArmLabel}
 use Rattle.c_core.specs.declared.tree.Label.TheVariants.{Case, Default}
+use Rattle.c_meaning.specs.declared.run.Way.{Way}
 use Rattle.c_meaning.specs.declared.run.Way.TheVariants as way
 use Rattle.c_meaning.specs.Run.{is_case, way_for}
 use Rattle.circuits.specs.declared.net.Bit.{Bit}
 use Rattle.circuits.specs.declared.net.NetNode.{NetNode}
-use Rattle.circuits.specs.Net.{holds, Means, IsIn}
+use Rattle.circuits.specs.Net.{holds, opposite, Means, IsIn}
 use Rattle.circuits.specs.Numbers.{AreIn}
+use Rattle.circuits.proofs.Nets.{means_by, opp, own}
 use Rattle.way_match.specs.Passing.{same_way}
 use Rattle.sym_choices.proofs.Labels.{label_of, labels_are, labels_more}
 
@@ -106,15 +108,31 @@ no_way net arms cases c i r le g m z are =
     let none : list_any (is_case c) (labels_in (switch_view arms)) ≡ false = ap (λ xs. list_any (is_case c) (labels_in (switch_view xs))) (sym (take_all i arms le)) ∙ g in
     record { inside = m.inside; is = λ v. m.is v ∙ sym (none_taken (z v) c (labels_in (switch_view arms)) none) }
 
+same_truths : (t b : Bool) → cond t b (not b) ≡ same_way (way.Truth t) (way.Truth b)
+same_truths true b = refl
+same_truths false true = refl
+same_truths false false = refl
+
+-- the truth value of a condition, or its opposite
+pub truth_taken : (net : List NetNode) (w : Way) (t : Bool) (truth r : Bit) → w ≡ way.Truth t → r ≡ cond t truth (opposite truth) → IsIn net truth → Means net r (λ v. same_way w (way.Truth (holds v net truth)))
+truth_taken net w t truth r e q h = means_by net r _ _ (by_truth t q) (λ v. same_truths t (holds v net truth) ∙ ap (λ u. same_way u (way.Truth (holds v net truth))) (sym e))
+  where
+    by_truth : (t : Bool) → r ≡ cond t truth (opposite truth) → Means net r (λ v. cond t (holds v net truth) (not (holds v net truth)))
+    by_truth true g = subst (λ b. Means net b (λ v. holds v net truth)) (sym g) (own net truth h)
+    by_truth false g = opp g (own net truth h)
+
+pub truth_elsewhere : (net : List NetNode) (w u : Way) (truth r : Bit) → w ≡ u → ((b : Bool) → same_way u (way.Truth b) ≡ false) → Means net r (λ v. false) → Means net r (λ v. same_way w (way.Truth (holds v net truth)))
+truth_elsewhere net w u truth r e none m = means_by net r _ _ m (λ v. sym (ap (λ x. same_way x (way.Truth (holds v net truth))) e ∙ none (holds v net truth)))
+
 -- none of them is taken where the value is none of the constants
-pub default_taken : (z : ℤ) (ls : List ArmLabel) → not (list_any (is_case z) ls) ≡ same_way way.Default (way_for z ls)
+default_taken : (z : ℤ) (ls : List ArmLabel) → not (list_any (is_case z) ls) ≡ same_way way.Default (way_for z ls)
 default_taken z ls = by_any (list_any (is_case z) ls)
   where
     by_any : (t : Bool) → not t ≡ same_way way.Default (cond t (way.Case z) way.Default)
     by_any true = refl
     by_any false = refl
 
-pub truth_not_taken : (b : Bool) (z : ℤ) (ls : List ArmLabel) → false ≡ same_way (way.Truth b) (way_for z ls)
+truth_not_taken : (b : Bool) (z : ℤ) (ls : List ArmLabel) → false ≡ same_way (way.Truth b) (way_for z ls)
 truth_not_taken b z ls = by_any b (list_any (is_case z) ls)
   where
     by_any : (b t : Bool) → false ≡ same_way (way.Truth b) (cond t (way.Case z) way.Default)
@@ -122,3 +140,14 @@ truth_not_taken b z ls = by_any b (list_any (is_case z) ls)
     by_any true false = refl
     by_any false true = refl
     by_any false false = refl
+
+-- ---- by the way that is asked for
+pub truth_of_switch : (net : List NetNode) (w : Way) (t : Bool) (r : Bit) (ls : List ArmLabel) → w ≡ way.Truth t → Means net r (λ v. false) → (z : (ℕ → Bool) → ℤ) → Means net r (λ v. same_way w (way_for (z v) ls))
+truth_of_switch net w t r ls e m z = means_by net r _ _ m (λ v. truth_not_taken t (z v) ls ∙ ap (λ u. same_way u (way_for (z v) ls)) (sym e))
+
+pub case_of_switch : (net : List NetNode) (w : Way) (c : ℤ) (r : Bit) (ls : List ArmLabel) → w ≡ way.Case c → (z : (ℕ → Bool) → ℤ) → Means net r (λ v. same_way (way.Case c) (way_for (z v) ls)) → Means net r (λ v. same_way w (way_for (z v) ls))
+case_of_switch net w c r ls e z m = means_by net r _ _ m (λ v. ap (λ u. same_way u (way_for (z v) ls)) (sym e))
+
+pub default_of_switch : (net : List NetNode) (w : Way) (none : Bit) (ls : List ArmLabel) → w ≡ way.Default → IsIn net none → (z : (ℕ → Bool) → ℤ) → ((v : ℕ → Bool) → holds v net none ≡ not (list_any (is_case (z v)) ls))
+    → Means net none (λ v. same_way w (way_for (z v) ls))
+default_of_switch net w none ls e h z q = record { inside = h; is = λ v. q v ∙ default_taken (z v) ls ∙ ap (λ u. same_way u (way_for (z v) ls)) (sym e) }

@@ -4,6 +4,7 @@ use Rattle.c_core.specs.Tree.{Program, Exp}
 use Rattle.c_core.specs.Types.{width_of, fit, is_zero, IsPromoted, common_of}
 use Rattle.c_core.specs.Operators.{apply_of, is_comparison, is_shift}
 use Rattle.c_core.specs.declared.number.DataModel.{DataModel}
+use Rattle.c_core.specs.declared.number.DataModel.TheVariants.{Ilp32, Lp64}
 use Rattle.c_core.specs.declared.number.IntType.{IntType}
 use Rattle.c_core.specs.declared.number.IntType.TheVariants.{Bool as BoolType, Char, SChar, UChar, Short, UShort, Int, UInt, Long, ULong, LongLong, ULongLong}
 use Rattle.c_core.specs.declared.number.BinOp.{BinOp}
@@ -71,6 +72,10 @@ moved_free m LongLong BoolType h = cc
 moved_free m ULongLong BoolType h = cc
 moved_free m from to h = refl
 
+int_wide : (m : DataModel) → width_of m Int ≡ 32
+int_wide Ilp32 = refl
+int_wide Lp64 = refl
+
 -- ---- what the bits of an outcome say
 and_yes : (b : Bool) → (b && true) ≡ b
 and_yes true = refl
@@ -103,7 +108,7 @@ module _ (p : Program) (op : BinOp) (common ty : IntType) (comparison : IsTrue (
       let done : (ℕ → Bool) → Done = λ v. apply_of p.model op common (typed p.model common v b.net us) (typed p.model common v b.net ws) in
       let undefined_there : Means d.net o.undefined (λ v. out.undefined (done v)) = means_added truth.turned.added (record { inside = given.undefined_in; is = given.undefined_is }) in
       record {
-        turned = turned_then p (comparison_cost p.model common) 0 two final (omega (arith, compared_cost p.model op common comparison, moved_free p.model ty common promoted)) (omega arith);
+        turned = turned_then p (comparison_cost p.model common) 0 two final (omega (arith, compared_cost p.model op common comparison, moved_free p.model ty common promoted, int_wide p.model)) (omega arith);
         means = means_by last r _ _ (and_of {a = t} {b = fine} {f = λ v. not (is_zero (typed p.model Int v net o.value.bits))} {g = λ v. not (out.undefined (done v))} m truth.means (opp e undefined_there)) (λ v.
             is_met (done v) (typed p.model Int v net o.value.bits) (subst (λ q. out.HasValue (done v) (typed p.model q v net o.value.bits)) (compared_type op common comparison) (given.value_is v))
             ∙ ap₂ (λ x y. is_true (wrapping (apply_of p.model op common x y))) (left.is v) (typed_added left.turned.added p.model common v ws right.bits_in ∙ right.is v));

@@ -77,6 +77,12 @@ module _ (p : Program) where
         ap (λ q. is_true (wrapping (apply_of p.model t.op q (fit p.model q (z v)) (fit p.model q w)))) c
         ∙ ap (λ o. is_true (and_then o (λ w. wrapping (apply_of p.model t.op whole (fit p.model whole (z v)) (fit p.model whole w))))) ew)
 
+  pub meets_room : (close : Spot) (t : ReturnTest) (from common to : IntType) → from ≡ type_of_call (call_at p close) → to ≡ type_of t.constant → common ≡ common_of p.model from to → (n : ℕ) → n + test_cost p close t < 2 ^ 27
+      → n + comparison_cost p.model common < 2 ^ 27
+  meets_room close t from common to ef et ec n room =
+      let c : common ≡ common_of p.model (type_of_call (call_at p close)) (type_of t.constant) = ec ∙ ap₂ (common_of p.model) ef et in
+      subst (λ q. n + comparison_cost p.model q < 2 ^ 27) (sym c) room
+
   -- its constant has no value
   pub meets_none : (close : Spot) (t : ReturnTest) (s : Sym) (r : Bit) (z : (ℕ → Bool) → ℤ) → IsState p s → None ≡ constant_of p t.constant → Means s.net r (λ v. false)
       → Decided p (test_cost p close t) s s r (λ v. meets p t (type_of_call (call_at p close)) (z v))

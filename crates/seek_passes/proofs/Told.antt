@@ -45,28 +45,29 @@ module _ (p : Program) (ss : List BoundSegment) (e : SymEvent) where
       let v : ℕ → Bool = λ k. false in
       omega (arith, length-map rs (passed_in b.net v), ap length (x.are v), length-map ss (passed_by p (event_in p a.net e v) (stand p v a).cells))
 
-  module _ (a b : Sym) (net : List NetNode) (rs : List Passing) (completed : Vec Bit Global) (x : PassesSegments p e ss a b rs) (y : AreAfter b.net net b.live rs b.completed.items completed.items) (same : length a.completed.items ≡ length ss) where
-    bits_before : (v : ℕ → Bool) → values_in b.net v b.completed.items ≡ (stand p v a).completed
-    bits_before v = ap (λ s. s.completed) (x.turned.is v)
+  -- the bits are those of the runs before
+  bits_before : {a b : Sym} {rs : List Passing} → PassesSegments p e ss a b rs → (v : ℕ → Bool) → values_in b.net v b.completed.items ≡ (stand p v a).completed
+  bits_before x v = ap (λ s. s.completed) (x.turned.is v)
 
+  pub level_before : {a b : Sym} {rs : List Passing} → PassesSegments p e ss a b rs → length b.completed.items ≡ length a.completed.items
+  level_before {a} {b} x =
+      let v : ℕ → Bool = λ k. false in
+      omega (arith, length-map b.completed.items (holds v b.net), ap length (bits_before x v), length-map a.completed.items (holds v a.net))
+
+  module _ (a b : Sym) (net : List NetNode) (rs : List Passing) (completed : Vec Bit Global) (x : PassesSegments p e ss a b rs) (y : AreAfter b.net net b.live rs b.completed.items completed.items) (same : length a.completed.items ≡ length ss) where
     bits_after : (W : Mode) → FollowsSegments p ss W → (v : ℕ → Bool) → values_in net v completed.items ≡ (telling W (event_in p a.net e v) (stand p v a)).completed
     bits_after W h v =
         let s = stand p v a in
         let E = event_in p a.net e v in
         y.values v
-        ∙ ap₂ (λ t bs. cond t (completed_from false false (map (passed_in b.net v) rs) bs) bs) (ap (λ s. s.live) (x.turned.is v)) (bits_before v)
+        ∙ ap₂ (λ t bs. cond t (completed_from false false (map (passed_in b.net v) rs) bs) bs) (ap (λ s. s.live) (x.turned.is v)) (bits_before x v)
         ∙ ap (λ xs. cond s.live (completed_from false false xs s.completed) s.completed) (x.are v)
         ∙ ap (λ cs. cond s.live cs s.completed) ((followed p ss E s.cells s.completed).after ∙ sym (h.next E s.cells s.completed))
-
-    level_before : length b.completed.items ≡ length a.completed.items
-    level_before =
-        let v : ℕ → Bool = λ k. false in
-        omega (arith, length-map b.completed.items (holds v b.net), ap length (bits_before v), length-map a.completed.items (holds v a.net))
 
     level_after : length completed.items ≡ length b.completed.items
     level_after =
         let v : ℕ → Bool = λ k. false in
-        let many : length (values_in b.net v b.completed.items) ≡ length (map (passed_in b.net v) rs) = omega (arith, length-map b.completed.items (holds v b.net), length-map rs (passed_in b.net v), one_each x, same, level_before) in
+        let many : length (values_in b.net v b.completed.items) ≡ length (map (passed_in b.net v) rs) = omega (arith, length-map b.completed.items (holds v b.net), length-map rs (passed_in b.net v), one_each x, same, level_before x) in
         let kept = level_either (holds v b.net b.live) (map (passed_in b.net v) rs) (values_in b.net v b.completed.items) many in
         omega (arith, length-map completed.items (holds v net), ap length (y.values v), length-map b.completed.items (holds v b.net), kept)
 
@@ -84,5 +85,5 @@ module _ (p : Program) (ss : List BoundSegment) (e : SymEvent) where
                 let z = bits_after W h v in
                 λ i. record (q i) { completed = z i };
           };
-      level = omega (arith, level_after, level_before);
+      level = omega (arith, level_after, level_before x);
     }

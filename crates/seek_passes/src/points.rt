@@ -213,10 +213,11 @@ pub fn passes_point(
         SymEvent::Branch(at, truth) => Ok(at_branch(&sym.net, point, *at, *truth)),
         SymEvent::Select {
             spot,
+            ty,
+            value,
             arms,
             cases,
             none,
-            ..
         } => Ok(at_switch(&sym.net, point, *spot, *arms, *cases, *none)),
     }
 }

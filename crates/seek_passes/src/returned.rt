@@ -7,7 +7,7 @@ ghost use Rattle.c_core.specs.View.{program_view, expr_view};
 ghost use Rattle.c_meaning.specs.Objects as objects;
 ghost use Rattle.c_meaning.specs.Value.{is_true, wrapping};
 ghost use Rattle.circuits.specs.Net.{holds, IsIn};
-ghost use Rattle.circuits.specs.Numbers.{typed, AreTyped};
+ghost use Rattle.circuits.specs.Numbers.{typed, AreTyped, Reads};
 ghost use Rattle.sym_state.specs.Standing.{IsState};
 ghost use Rattle.sym_values.specs.Valuing.{Decided};
 ghost use Rattle.way_match.specs.Passing as passing;
@@ -18,10 +18,10 @@ ghost use Rattle.seek_passes.specs.Passing.{IsTest};
 
 use c_core::{BinOp, DataModel, Expr, IntType, Program, Spot, common, fitted};
 use c_meaning::{Memory, type_of, value_in};
-use circuits::{Bit, Bits, apply_bits, const_bits, not};
+use circuits::{Bit, Bits, Net, apply_bits, const_bits, not};
 use std::alloc::Global;
 use sym_state::Sym;
-use sym_values::{convert, test as is_set};
+use sym_values::{convert, test};
 use way_match::ReturnTest;
 use way_places::call_at;
 use wv_base::OutOfMemory;
@@ -51,6 +51,21 @@ fn common_type(model: DataModel, a: IntType, b: IntType) -> IntType
     common(model, a, b)
 }
 
+// The digits of a constant that is converted to a type.
+fn constant_bits(
+    alloc: Global,
+    net: &Net,
+    model: DataModel,
+    ty: IntType,
+    constant: i128,
+) -> Result<Bits, OutOfMemory>
+    ensures { IfOk result (λ r. Reads model ty net.now r.bits (λ v. fit model ty constant)) }
+{
+    let value = fitted(model, ty, constant);
+    let bits = const_bits(alloc, net, model, ty, value)?;
+    Ok(bits)
+}
+
 // Where a comparison with a constant holds, both sides converted to a promoted type.
 fn compared(
     alloc: Global,
@@ -73,8 +88,7 @@ fn compared(
         (fit program.now.model common constant))))) }
 {
     let model = program.model;
-    let value = fitted(model, common, constant);
-    let right = const_bits(alloc, &sym.net, model, common, value)?;
+    let right = constant_bits(alloc, &sym.net, model, common, constant)?;
     let left = convert(alloc, program, sym, ty, common, bits)?;
     let out = apply_bits(
         alloc,
@@ -86,7 +100,7 @@ fn compared(
         common,
         &right,
     )?;
-    let truth = is_set(alloc, program, sym, IntType::Int, &out.value)?;
+    let truth = test(alloc, program, sym, IntType::Int, &out.value)?;
     let met = sym.net.and(truth, not(out.undefined))?;
     Ok(met)
 }

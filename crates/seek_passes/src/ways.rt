@@ -1,10 +1,10 @@
 // Which runs take the way of a waypoint.
-ghost use Rattle.std.specs.Prelude.{◌≡◌, ℕ, ℤ, Bool, length, map, not};
+ghost use Rattle.std.specs.Prelude.{◌≡◌, ℕ, ℤ, Bool, cond, length, map, not};
 ghost use Rattle.std.specs.List.{list_any};
 ghost use Rattle.c_core.specs.Typing.{labels_in};
 ghost use Rattle.c_core.specs.View.{switch_view};
 ghost use Rattle.c_meaning.specs.Run.{is_case, way_for};
-ghost use Rattle.circuits.specs.Net.{holds, Means, IsIn};
+ghost use Rattle.circuits.specs.Net.{holds, opposite, Means, IsIn};
 ghost use Rattle.circuits.specs.Numbers.{AreIn};
 ghost use Rattle.way_match.specs.Passing.{same_way};
 
@@ -13,14 +13,20 @@ use c_core::{Arm, Label};
 use c_meaning::Way;
 use circuits::{Bit, Net, not};
 
+// The bit, or its opposite.
+fn kept_if(keep: bool, bit: Bit) -> Bit
+    ensures { result ≡ cond keep bit (opposite bit) }
+{
+    if keep { bit } else { not(bit) }
+}
+
 /// Where a condition of this truth value takes the way.
 pub fn truth_way(net: &Net, way: Way, truth: Bit) -> Bit
     requires { IsIn net.now truth }
     ensures { Means net.now result (λ v. same_way way (Way.Truth (holds v net.now truth))) }
 {
     match way {
-        Way::Truth(true) => truth,
-        Way::Truth(false) => not(truth),
+        Way::Truth(taken) => kept_if(taken, truth),
         Way::Case(_) => known(net, false),
         Way::Default => known(net, false),
     }
