@@ -1,5 +1,5 @@
 -- A violation completes all segments where it completes the last one.
-use Rattle.std.proofs.Common.{◌≡◌, ℕ, zero, suc, ◌+◌, ◌-◌, ◌≤◌, ◌<◌, Bool, true, false, not, ◌&&◌, ◌||◌, List, [], ◌∷◌, ◌++◌, length, map, take, get_or, refl, sym, ◌∙◌, ap, ap₂, subst, arith, Option}
+use Rattle.std.proofs.Common.{◌≡◌, ℕ, zero, suc, ◌+◌, ◌-◌, ◌≤◌, ◌<◌, Bool, true, false, not, ◌&&◌, ◌||◌, List, [], ◌∷◌, ◌++◌, length, map, take, drop, drop-cons, get_or, refl, sym, ◌∙◌, ap, ap₂, subst, arith, Option}
 use Rattle.std.proofs.lemmas.List.{get_or-map, length-map, map-append, take_all, take_more, length-take-le}
 use Rattle.std.proofs.lemmas.List.Elements.{All-get_or}
 use Rattle.c_core.specs.Tree.{Program}
@@ -19,6 +19,7 @@ use Rattle.way_match.specs.Passing.{passes, passes_any, is_assumption}
 use Rattle.way_match.specs.Points.{Point, Assume, Target, Enter, Return, Branch, BoundSegment}
 use Rattle.way_match.specs.View.{point_view, points_view, segment_view, each_segment_view}
 use Rattle.way_match.specs.declared.point.BoundSegment.{BoundSegment as Segment}
+use Rattle.way_match.specs.declared.point.Point.{Point as Waypoint}
 use Rattle.seek_passes.specs.Telling.{FollowsSegments, Counts}
 use Rattle.seek_passes.proofs.Several.{segments_length, segments_more}
 
@@ -60,6 +61,15 @@ module _ (p : Program) (statement full : Spot) (call : Option Spot) (cells : Lis
   last_decides came assumes [] s (c ∷ bs) b h = absurd (omega (arith, h))
   last_decides came assumes (t ∷ ss) s [] b h = absurd (omega (arith, h))
   last_decides came assumes (t ∷ ss) s (c ∷ bs) b h = last_decides (completes p violation cells came assumes t c) (is_assumption t.follow) ss s bs b (omega (arith, h))
+
+-- ---- waypoints in turn
+pub any_first : (p : Program) (E : Event) (cells : List Cell) (xs : List Waypoint) (i : ℕ) (x : Waypoint) → i < length xs → x ≡ get_or xs i x
+    → passes_any p (points_view (drop i xs)) E cells ≡ (passes p (point_view x) E cells || passes_any p (points_view (drop (i + 1) xs)) E cells)
+any_first p E cells xs i x lt e =
+    let n : i + 1 ≡ suc i = omega arith in
+    ap (λ ys. passes_any p (points_view ys) E cells) (drop-cons xs i x lt)
+    ∙ ap (λ y. passes p (point_view y) E cells || passes_any p (points_view (drop (suc i) xs)) E cells) (sym e)
+    ∙ ap (λ k. passes p (point_view x) E cells || passes_any p (points_view (drop k xs)) E cells) (sym n)
 
 -- the one before n, and all before it
 before_last : {A : Type 0} (xs : List A) (n : ℕ) (d : A) → length xs ≡ n → 0 < n → xs ≡ take (n - 1) xs ++ get_or xs (n - 1) d ∷ []

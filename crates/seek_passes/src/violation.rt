@@ -64,13 +64,21 @@ fn fails_at_any(points: &[Point], at: Violation) -> bool
     false
 }
 
+fn both(a: bool, b: bool) -> bool
+    ensures { result ≡ (a && b) }
+{
+    a && b
+}
+
 // A violation passes the follow of a segment, and none of its avoids.
 fn completes(segment: &BoundSegment, at: Violation) -> bool
     ensures { (p : pure_program) (cells : List Cell) → result ≡ (passing.passes p (point_view segment.now.follow)
         (Event.Fail at.statement at.full at.call) cells && negated (passing.passes_any p
         (points_view segment.now.avoids) (Event.Fail at.statement at.full at.call) cells)) }
 {
-    fails_at(&segment.follow, at) && !fails_at_any(segment.avoids.as_slice(), at)
+    let follows = fails_at(&segment.follow, at);
+    let avoids = fails_at_any(segment.avoids.as_slice(), at);
+    both(follows, !avoids)
 }
 
 /// Where a violation completes all segments: where those before the last are completed, and it completes the last. No

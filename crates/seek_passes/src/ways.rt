@@ -1,5 +1,5 @@
 // Which runs take the way of a waypoint.
-ghost use Rattle.std.specs.Prelude.{◌≡◌, ℕ, ℤ, Bool, cond, length, map, not};
+ghost use Rattle.std.specs.Prelude.{◌≡◌, ℕ, ℤ, Bool, cond, length, map, not as negated};
 ghost use Rattle.std.specs.List.{list_any};
 ghost use Rattle.c_core.specs.Typing.{labels_in};
 ghost use Rattle.c_core.specs.View.{switch_view};
@@ -64,7 +64,7 @@ pub fn arm_way(net: &Net, way: Way, arms: &[Arm], cases: &[Bit], none: Bit) -> B
     requires none_in { IsIn net.now none }
     ensures { (z : (ℕ → Bool) → ℤ)
         → ((v : ℕ → Bool) → map (holds v net.now) cases.now ≡ map (is_case (z v)) (labels_in (switch_view arms.now)))
-        → ((v : ℕ → Bool) → holds v net.now none ≡ not (list_any (is_case (z v)) (labels_in (switch_view arms.now))))
+        → ((v : ℕ → Bool) → holds v net.now none ≡ negated (list_any (is_case (z v)) (labels_in (switch_view arms.now))))
         → Means net.now result (λ v. same_way way (way_for (z v) (labels_in (switch_view arms.now)))) }
 {
     match way {

@@ -12,13 +12,13 @@ pub loop-i-preserved : goal.loop-i-preserved
 loop-i-preserved c =
     let fits : SFits w128 c.args.constant = search rules in
     let told = rw (to_z-of_z w128 c.args.constant fits) at c.is_label.ensures in
-    none_more c.args.arms.now c.args.constant c.loop-i.i c.arm-item.result c.loop-i-test.true c.arm-item.is (sym told ∙ c.if-is_label.false) c.loop-i.invariant
+    none_more c.args.arms.now c.args.constant c.loop-i.i c.index-arms-i.result c.loop-i-test.true c.index-arms-i.is (sym told ∙ c.if-is_label.false) c.loop-i.invariant
 
 pub returns-then-is_label : goal.returns-then-is_label
 returns-then-is_label c =
     let fits : SFits w128 c.args.constant = search rules in
     let told = rw (to_z-of_z w128 c.args.constant fits) at c.is_label.ensures in
-    found_way c.args.net.now c.args.arms.now c.args.cases.now c.args.constant c.loop-i.i c.arm-item.result _ c.requires.cases_in c.requires.many c.loop-i-test.true c.arm-item.is (sym told ∙ c.if-is_label.true)
+    found_way c.args.net.now c.args.arms.now c.args.cases.now c.args.constant c.loop-i.i c.index-arms-i.result _ c.requires.cases_in c.requires.many c.loop-i-test.true c.index-arms-i.is (sym told ∙ c.if-is_label.true)
 
 pub returns : goal.returns
 returns c =
