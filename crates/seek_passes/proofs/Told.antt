@@ -12,7 +12,7 @@ use Rattle.circuits.specs.Net.{holds}
 use Rattle.seek_events.specs.declared.segment.Passing.{Passing}
 use Rattle.seek_events.specs.Events.{AreAfter, passed_in, values_in}
 use Rattle.seek_events.specs.Laws.{passed_by}
-use Rattle.seek_events.specs.Passed.{Passed, completed_from}
+use Rattle.seek_events.specs.Passed.{Passed, completes, completed_from}
 use Rattle.seek_events.proofs.Segments.{followed}
 use Rattle.seek_meaning.specs.Progress.{completed_after}
 use Rattle.sym_meaning.specs.Mode.{Mode}
@@ -32,7 +32,7 @@ level_from : (came assumes : Bool) (xs : List Passed) (bs : List Bool) → lengt
 level_from came assumes [] [] h = refl
 level_from came assumes [] (b ∷ bs) h = absurd (omega (arith, h))
 level_from came assumes (x ∷ xs) [] h = absurd (omega (arith, h))
-level_from came assumes (x ∷ xs) (b ∷ bs) h = omega (arith, level_from _ _ xs bs (omega (arith, h)))
+level_from came assumes (x ∷ xs) (b ∷ bs) h = omega (arith, level_from (completes came assumes x b) x.assumes xs bs (omega (arith, h)))
 
 level_either : (t : Bool) (xs : List Passed) (bs : List Bool) → length bs ≡ length xs → length (cond t (completed_from false false xs bs) bs) ≡ length bs
 level_either true xs bs h = level_from false false xs bs h
