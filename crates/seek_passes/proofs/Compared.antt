@@ -1,5 +1,5 @@
 -- Comparisons of `\result` with a constant.
-use Rattle.std.proofs.Common.{◌≡◌, ℕ, ◌+◌, ◌*◌, ◌≤◌, Bool, true, false, cond, not, ◌&&◌, ℤ, List, refl, sym, ◌∙◌, ap, ap₂, subst, arith, IsTrue, Option, Some, None}
+use Rattle.std.proofs.Common.{◌≡◌, ℕ, ◌+◌, ◌*◌, ◌≤◌, ◌<◌, ◌^◌, Bool, true, false, cond, not, ◌&&◌, ℤ, List, length, refl, sym, ◌∙◌, ap, ap₂, subst, arith, IsTrue, Option, Some, None}
 use Rattle.c_core.specs.Tree.{Program, Exp}
 use Rattle.c_core.specs.Types.{width_of, fit, is_zero, IsPromoted, common_of}
 use Rattle.c_core.specs.Operators.{apply_of, is_comparison, is_shift}
@@ -19,10 +19,10 @@ use Rattle.circuits.specs.Net.{holds, opposite, Grown, Means}
 use Rattle.circuits.specs.Numbers.{typed, AreTyped, Reads}
 use Rattle.circuits.specs.Outcome as out
 use Rattle.circuits.specs.Outcome.{conversion_cost, binary_cost, binary_type}
-use Rattle.circuits.proofs.Nets.{means_by, opp, and_of}
+use Rattle.circuits.proofs.Nets.{means_by, opp, and_of, longer}
 use Rattle.sym_state.specs.declared.state.Sym.{Sym}
 use Rattle.sym_state.specs.Standing.{Turned}
-use Rattle.sym_state.proofs.Nets.{in_added, holds_added, typed_added}
+use Rattle.sym_state.proofs.Nets.{longer_by, typed_added}
 use Rattle.sym_state.proofs.Turning.{turned_then}
 use Rattle.sym_values.specs.Valuing.{Reckoned, Decided}
 use Rattle.sym_values.proofs.Reckoning.{net_turned}
@@ -91,7 +91,18 @@ is_met (Overflow r) z h = and_yes (not (is_zero z)) ∙ ap (λ y. not (is_zero y
 is_met Undefined z h = and_no (not (is_zero z))
 
 module _ (p : Program) (op : BinOp) (common ty : IntType) (comparison : IsTrue (is_comparison op)) (promoted : IsPromoted common) where
-  -- the value of a side that is a constant, over a larger net
+  -- ---- room
+  module _ {a b : Sym} (left : Turned p (conversion_cost p.model ty common) 0 a b (λ v s. s)) (room : length a.net + comparison_cost p.model common < 2 ^ 27) where
+    pub room_left : length b.net + comparison_cost p.model common < 2 ^ 27
+    room_left = omega (arith, room, (longer_by left.added).1, moved_free p.model ty common promoted)
+
+    pub room_out : {net : List NetNode} → Grown (binary_cost p.model op common) b.net net → length net + 33 < 2 ^ 27
+    room_out {net} g = omega (arith, room_left, (longer (binary_cost p.model op common) b.net net g).1, compared_cost p.model op common comparison)
+
+  pub room_truth : {c d : Sym} → length c.net + 33 < 2 ^ 27 → Turned p (conversion_cost p.model Int BoolType) 0 c d (λ v s. s) → length d.net < 2 ^ 27
+  room_truth {c} {d} room x = omega (arith, room, (longer_by x.added).1, int_wide p.model)
+
+  -- ---- the bit of a comparison: of a value that is converted, and of a constant
   pub compared_means : {a b d : Sym} {net last : List NetNode} {xs us ws : List Bit} {o : Outcome} {t fine r : Bit} (z : ℤ)
       → Reads p.model common a.net ws (λ v. z)
       → Reckoned p (conversion_cost p.model ty common) a b common us (λ v. fit p.model common (typed p.model ty v a.net xs))

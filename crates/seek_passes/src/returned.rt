@@ -4,7 +4,6 @@ ghost use Rattle.c_core.specs.Operators.{apply_of, is_comparison};
 ghost use Rattle.c_core.specs.Places as places;
 ghost use Rattle.c_core.specs.Types.{common_of, fit, IsPromoted};
 ghost use Rattle.c_core.specs.View.{program_view, expr_view};
-ghost use Rattle.c_meaning.specs.Objects as objects;
 ghost use Rattle.c_meaning.specs.Value.{is_true, wrapping};
 ghost use Rattle.circuits.specs.Net.{holds, IsIn};
 ghost use Rattle.circuits.specs.Numbers.{typed, AreTyped, Reads};

@@ -2,7 +2,7 @@ use Rattle.std.proofs.Common.{◌≡◌, ◌+◌, ◌<◌, ◌^◌, length, subs
 use Rattle.c_core.specs.View.{program_view}
 use Rattle.circuits.specs.Net.{holds}
 use Rattle.circuits.specs.Numbers.{typed}
-use Rattle.sym_state.proofs.Nets.{in_added}
+use Rattle.sym_state.proofs.Nets.{in_added, longer_by}
 use Rattle.sym_values.specs.Valuing.{Decided}
 use Rattle.way_match.specs.Passing as passing
 use Rattle.way_match.specs.View.{test_view, test_view_if}
@@ -20,6 +20,13 @@ meets-requires-clause-room c = omega (arith, c.requires.room, ap (λ t. test_cos
 
 pub and-requires-clause-a_in : goal.and-requires-clause-a_in
 and-requires-clause-a_in c = in_added c.in_ok-met.ensures.turned.added c.args.gave c.requires.gave_in
+
+pub and-requires-clause-b_in : goal.and-requires-clause-b_in
+and-requires-clause-b_in c = c.in_ok-met.ensures.means.inside
+
+pub and-requires-clause-room : goal.and-requires-clause-room
+and-requires-clause-room c =
+    omega (arith, c.requires.room, ap (λ t. test_cost_if (program_view c.args.program.now) c.args.close (test_view_if t)) c.in-Some.is, (longer_by c.in_ok-met.ensures.turned.added).1)
 
 pub returns-in_ok-both : goal.returns-in_ok-both
 returns-in_ok-both c =
