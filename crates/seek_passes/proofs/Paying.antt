@@ -5,7 +5,7 @@ use Rattle.c_core.specs.declared.number.Spot.{Spot}
 use Rattle.way_match.specs.Points.{Point, BoundSegment}
 use Rattle.seek_weight.specs.Tolls.{Happening, AStatement, ACall, points_of, constraint_weight, is_placed, placed_weight}
 use Rattle.seek_passes.specs.declared.event.SymEvent.{SymEvent}
-use Rattle.seek_passes.specs.declared.event.SymEvent.TheVariants.{At, Enter, Return, Branch}
+use Rattle.seek_passes.specs.declared.event.SymEvent.TheVariants.{At, Enter, Return, Branch, Select}
 use Rattle.seek_passes.specs.Charges.{placed_cost, point_weight, any_weight, segments_weight, told_weight, IsPaid}
 
 one_paid : (b : Bool) (n : ℕ) → cond b (65 + n) 0 ≤ 1 + cond b (64 + n) 0
@@ -41,5 +41,6 @@ pub paid : (p : Program) (ss : List BoundSegment) → IsPaid p ss
 paid p ss = record {
   statement = λ spot. omega (arith, placed_paid p AStatement spot (At spot) (λ x. refl) ss);
   test = λ spot truth. omega (arith, free_paid p (Branch spot truth) (λ x. refl) ss);
+  switch = λ spot ty value arms cases none. omega (arith, free_paid p (Select spot ty value arms cases none) (λ x. refl) ss);
   call = λ close ty bits gave. omega (arith, free_paid p (Enter close) (λ x. refl) ss, placed_paid p ACall close (Return close ty bits gave) (λ x. refl) ss);
 }

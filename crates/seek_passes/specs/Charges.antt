@@ -6,6 +6,7 @@ use Rattle.c_core.specs.Types.{width_of, common_of}
 use Rattle.c_core.specs.declared.number.DataModel.{DataModel}
 use Rattle.c_core.specs.declared.number.IntType.{IntType}
 use Rattle.c_core.specs.declared.number.Spot.{Spot}
+use Rattle.c_core.specs.declared.tree.Arm.{Arm}
 use Rattle.circuits.specs.declared.bits.Bits.{Bits}
 use Rattle.circuits.specs.declared.net.Bit.{Bit}
 use denote.Ref.{Bor}
@@ -62,5 +63,7 @@ module _ (p : Program) where
 pub record IsPaid (p : Program) (ss : List BoundSegment) : Type 0 where
   pub statement : (spot : Spot) → told_weight p (At spot) ss ≤ toll p ss AStatement spot
   pub test : (spot : Spot) (truth : Bit) → told_weight p (Branch spot truth) ss ≤ toll p ss ATest spot
+  pub switch : (spot : Spot) (ty : IntType) (value : Bor Bits) (arms : Bor (List Arm)) (cases : Bor (List Bit)) (none : Bit)
+      → told_weight p (Select spot ty value arms cases none) ss ≤ toll p ss ATest spot
   pub call : (close : Spot) (ty : IntType) (bits : Bor Bits) (gave : Bit)
       → told_weight p (Enter close) ss + told_weight p (Return close ty bits gave) ss ≤ toll p ss ACall close

@@ -13,11 +13,11 @@ meets_at-requires-clause-comparison c = returned_test (program_view c.args.progr
 pub meets_at-requires-clause-room : goal.meets_at-requires-clause-room
 meets_at-requires-clause-room c = returned_room (program_view c.args.program.now) (point_view c.args.point.now) c.args.at (test_view_if c.in-Some.test.now) c.in-Some.ensures _ c.requires.point c.requires.room
 
-pub returns-in_ok-meets : goal.returns-in_ok-meets
-returns-in_ok-meets c =
+pub returns-in_ok-meets-in-Some : goal.returns-in_ok-meets-in-Some
+returns-in_ok-meets-in-Some c =
     let s = c.args.sym.now in
-    returned_passes (program_view c.args.program.now) (point_view c.args.point.now) c.args.at (test_view_if c.in-Some.test.now) c.in-Some.ensures s c.meets_at.new.sym c.in_ok-meets.meets
-    (λ v. given_if (holds v s.net c.args.gave) (typed c.args.program.now.model c.args.ty v s.net c.args.bits.now.bits)) c.requires.point c.in_ok-meets.ensures
+    returned_passes (program_view c.args.program.now) (point_view c.args.point.now) c.args.at (test_view_if c.in-Some.test.now) c.in-Some.ensures s c.meets_at.new.sym c.in_ok-meets-in-Some.meets
+    (λ v. given_if (holds v s.net c.args.gave) (typed c.args.program.now.model c.args.ty v s.net c.args.bits.now.bits)) c.requires.point c.in_ok-meets-in-Some.ensures
 
 pub returns-in-None : goal.returns-in-None
 returns-in-None c =

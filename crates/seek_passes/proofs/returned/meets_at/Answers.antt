@@ -19,22 +19,22 @@ pub meets-requires-clause-room : goal.meets-requires-clause-room
 meets-requires-clause-room c = omega (arith, c.requires.room, ap (λ t. test_cost_if (program_view c.args.program.now) c.args.close (test_view_if t)) c.in-Some.is)
 
 pub and-requires-clause-a_in : goal.and-requires-clause-a_in
-and-requires-clause-a_in c = in_added c.in_ok-met.ensures.turned.added c.args.gave c.requires.gave_in
+and-requires-clause-a_in c = in_added c.in_ok-met-in-Some.ensures.turned.added c.args.gave c.requires.gave_in
 
 pub and-requires-clause-b_in : goal.and-requires-clause-b_in
-and-requires-clause-b_in c = c.in_ok-met.ensures.means.inside
+and-requires-clause-b_in c = c.in_ok-met-in-Some.ensures.means.inside
 
 pub and-requires-clause-room : goal.and-requires-clause-room
 and-requires-clause-room c =
-    omega (arith, c.requires.room, ap (λ t. test_cost_if (program_view c.args.program.now) c.args.close (test_view_if t)) c.in-Some.is, (longer_by c.in_ok-met.ensures.turned.added).1)
+    omega (arith, c.requires.room, ap (λ t. test_cost_if (program_view c.args.program.now) c.args.close (test_view_if t)) c.in-Some.is, (longer_by c.in_ok-met-in-Some.ensures.turned.added).1)
 
-pub returns-in_ok-both : goal.returns-in_ok-both
-returns-in_ok-both c =
+pub returns-in_ok-both-in-Some : goal.returns-in_ok-both-in-Some
+returns-in_ok-both-in-Some c =
     let p = program_view c.args.program.now in
     let s = c.args.sym.now in
     let z = λ v. typed p.model c.args.ty v s.net c.args.bits.now.bits in
-    subst (λ t. Decided p (test_cost_if p c.args.close (test_view_if t)) s (record c.meets.new.sym { net = c.and.new.self }) c.in_ok-both.both (λ v. passing.meets_at p c.args.close (test_view_if t) (given_if (holds v s.net c.args.gave) (z v)))) (sym c.in-Some.is)
-    (given_decided p c.args.close (test_view c.in-Some.test) z c.requires.gave_in c.in_ok-met.ensures c.in_ok-both.ensures.grown c.in_ok-both.ensures.value)
+    subst (λ t. Decided p (test_cost_if p c.args.close (test_view_if t)) s (record c.meets.new.sym { net = c.and.new.self }) c.in_ok-both-in-Some.both (λ v. passing.meets_at p c.args.close (test_view_if t) (given_if (holds v s.net c.args.gave) (z v)))) (sym c.in-Some.is)
+    (given_decided p c.args.close (test_view c.in-Some.test) z c.requires.gave_in c.in_ok-met-in-Some.ensures c.in_ok-both-in-Some.ensures.grown c.in_ok-both-in-Some.ensures.value)
 
 pub returns-in-None : goal.returns-in-None
 returns-in-None c =
