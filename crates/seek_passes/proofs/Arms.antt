@@ -20,6 +20,7 @@ use Rattle.circuits.specs.Net.{holds, opposite, Means, IsIn}
 use Rattle.circuits.specs.Numbers.{AreIn}
 use Rattle.circuits.proofs.Nets.{means_by, opp, own}
 use Rattle.way_match.specs.Passing.{same_way}
+use Rattle.seek_passes.specs.Event.{AreCasesOf, IsNoneOf}
 use Rattle.sym_choices.proofs.Labels.{label_of, labels_are, labels_more}
 
 module _ (z c : ℤ) where
@@ -60,10 +61,6 @@ module _ (z c : ℤ) where
       by_value true e =
           sym (taken ls true (list_any_at (is_case z) ls i d lt (ap (is_case z) g ∙ e)) ∙ (Decides-int_eq c z).1 (eq ∙ sym ((Decides-int_eq z k).0 e)))
       by_value false e = sym (by_any (list_any (is_case z) ls) refl e)
-
--- what the bits of a switch are to say
-abbrev pub AreCasesOf : List NetNode → List Bit → List Arm → ((ℕ → Bool) → ℤ) → Type 0
-AreCasesOf net cases arms z = (v : ℕ → Bool) → map (holds v net) cases ≡ map (is_case (z v)) (labels_in (switch_view arms))
 
 label_there : (arms : List Arm) (i : ℕ) (a : Arm) (d : ArmLabel) → i < length arms → a ≡ get_or arms i a → get_or (labels_in (switch_view arms)) i d ≡ label_of a
 label_there arms i a d lt e = ap (λ ls. get_or ls i d) (labels_are arms) ∙ get_or-map label_of arms i a d lt ∙ ap label_of (sym e)
@@ -148,6 +145,7 @@ truth_of_switch net w t r ls e m z = means_by net r _ _ m (λ v. truth_not_taken
 pub case_of_switch : (net : List NetNode) (w : Way) (c : ℤ) (r : Bit) (ls : List ArmLabel) → w ≡ way.Case c → (z : (ℕ → Bool) → ℤ) → Means net r (λ v. same_way (way.Case c) (way_for (z v) ls)) → Means net r (λ v. same_way w (way_for (z v) ls))
 case_of_switch net w c r ls e z m = means_by net r _ _ m (λ v. ap (λ u. same_way u (way_for (z v) ls)) (sym e))
 
-pub default_of_switch : (net : List NetNode) (w : Way) (none : Bit) (ls : List ArmLabel) → w ≡ way.Default → IsIn net none → (z : (ℕ → Bool) → ℤ) → ((v : ℕ → Bool) → holds v net none ≡ not (list_any (is_case (z v)) ls))
-    → Means net none (λ v. same_way w (way_for (z v) ls))
-default_of_switch net w none ls e h z q = record { inside = h; is = λ v. q v ∙ default_taken (z v) ls ∙ ap (λ u. same_way u (way_for (z v) ls)) (sym e) }
+pub default_of_switch : (net : List NetNode) (w : Way) (none : Bit) (arms : List Arm) → w ≡ way.Default → IsIn net none → (z : (ℕ → Bool) → ℤ) → IsNoneOf net none arms z → Means net none (λ v. same_way w (way_for (z v) (labels_in (switch_view arms))))
+default_of_switch net w none arms e h z q =
+    let ls = labels_in (switch_view arms) in
+    record { inside = h; is = λ v. q v ∙ default_taken (z v) ls ∙ ap (λ u. same_way u (way_for (z v) ls)) (sym e) }

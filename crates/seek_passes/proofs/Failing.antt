@@ -29,17 +29,17 @@ nothing_more true false = refl
 nothing_more false true = refl
 nothing_more false false = refl
 
+yes_kept : (c : Bool) → c ≡ (c && true)
+yes_kept true = refl
+yes_kept false = refl
+
+no_kept : (c : Bool) → false ≡ (c && false)
+no_kept true = refl
+no_kept false = refl
+
 regrouped : (f b a : Bool) → (f && (b && not a)) ≡ ((f && not a) && b)
-regrouped true true a = regrouped-true (not a)
-  where
-    regrouped-true : (c : Bool) → c ≡ (c && true)
-    regrouped-true true = refl
-    regrouped-true false = refl
-regrouped true false a = regrouped-false (not a)
-  where
-    regrouped-false : (c : Bool) → false ≡ (c && false)
-    regrouped-false true = refl
-    regrouped-false false = refl
+regrouped true true a = yes_kept (not a)
+regrouped true false a = no_kept (not a)
 regrouped false b a = refl
 
 module _ (p : Program) (statement full : Spot) (call : Option Spot) (cells : List Cell) where

@@ -7,7 +7,7 @@ use Rattle.c_core.specs.Typing.{labels_in}
 use Rattle.c_core.specs.View.{switch_view}
 use Rattle.c_core.specs.declared.number.DataModel.{DataModel}
 use Rattle.c_core.specs.declared.number.IntType.{IntType}
-use Rattle.c_core.specs.declared.tree.Label.{Label as ArmLabel}
+use Rattle.c_core.specs.declared.tree.Arm.{Arm}
 use Rattle.c_meaning.specs.Cells.{Cell}
 use Rattle.c_meaning.specs.declared.run.Event.{Event as RunEvent}
 use Rattle.c_meaning.specs.declared.run.Event.TheVariants as event
@@ -41,14 +41,16 @@ module _ {i j : ℕ} {old new : List NetNode} (g : Added i j old new) where
   all_held v [] h = refl
   all_held v (b ∷ bs) h = ap₂ (λ x y. x ∷ y) (holds_added g v b (All-head (λ b. IsIn old b) b bs h)) (all_held v bs (All-tail (λ b. IsIn old b) b bs h))
 
-  selection_later : (m : DataModel) (ty : IntType) (value : List Bit) (ls : List ArmLabel) (cases : List Bit) (none : Bit) → IsSelection m old ty value ls cases none → IsSelection m new ty value ls cases none
-  selection_later m ty value ls cases none h =
+  selection_later : (m : DataModel) (ty : IntType) (value : List Bit) (arms : List Arm) (cases : List Bit) (none : Bit) → IsSelection m old ty value arms cases none → IsSelection m new ty value arms cases none
+  selection_later m ty value arms cases none h =
+      let ls = labels_in (switch_view arms) in
       let same = λ (v : ℕ → Bool). sym (typed_added g m ty v value h.value_in) in
       record {
         value_in = are_typed_added g h.value_in;
         cases_in = all_added g cases h.cases_in;
         cases_are = λ v. all_held v cases h.cases_in ∙ h.cases_are v ∙ ap (λ z. map (is_case z) ls) (same v);
-        none_is = record { inside = in_added g none h.none_is.inside; is = λ v. holds_added g v none h.none_is.inside ∙ h.none_is.is v ∙ ap (λ z. not (list_any (is_case z) ls)) (same v) };
+        none_in = in_added g none h.none_in;
+        none_is = λ v. holds_added g v none h.none_in ∙ h.none_is v ∙ ap (λ z. not (list_any (is_case z) ls)) (same v);
       }
 
   module _ (p : Program) where
@@ -65,7 +67,7 @@ module _ {i j : ℕ} {old new : List NetNode} (g : Added i j old new) where
     event_later (Enter close) h = tt
     event_later (Return close ty bits gave) h = record { bits_in = are_typed_added g h.bits_in; gave_in = in_added g gave h.gave_in }
     event_later (Branch spot truth) h = in_added g truth h
-    event_later (Select spot ty value arms cases none) h = selection_later p.model ty value.now.bits (labels_in (switch_view arms.now)) cases.now none h
+    event_later (Select spot ty value arms cases none) h = selection_later p.model ty value.now.bits arms.now cases.now none h
 
 module _ {k : ℕ} (p : Program) (e : SymEvent) {s t : Sym} (x : Turned p k 0 s t (λ v z. z)) (h : IsEvent p s.net e) where
   -- what is said of the event and of the cells then, is said of those before

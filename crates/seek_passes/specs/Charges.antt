@@ -63,7 +63,8 @@ module _ (p : Program) where
 pub record IsPaid (p : Program) (ss : List BoundSegment) : Type 0 where
   pub statement : (spot : Spot) → told_weight p (At spot) ss ≤ toll p ss AStatement spot
   pub test : (spot : Spot) (truth : Bit) → told_weight p (Branch spot truth) ss ≤ toll p ss ATest spot
-  pub switch : (spot : Spot) (ty : IntType) (value : Bor Bits) (arms : Bor (List Arm)) (cases : Bor (List Bit)) (none : Bit)
+  pub switch : (spot : Spot) (ty : IntType) (value : Bor Bits) (arms : Bor (List Arm))
+      (cases : Bor (List Bit)) (none : Bit)
       → told_weight p (Select spot ty value arms cases none) ss ≤ toll p ss ATest spot
   pub call : (close : Spot) (ty : IntType) (bits : Bor Bits) (gave : Bit)
       → told_weight p (Enter close) ss + told_weight p (Return close ty bits gave) ss ≤ toll p ss ACall close

@@ -61,4 +61,5 @@ module _ (p : Program) (e : SymEvent) where
   pub record PassesSegments (ss : List BoundSegment) (old new : Sym) (rs : List Passing) : Type 0 where
     pub turned : Turned p (segments_weight p e ss) 0 old new (λ v s. s)
     pub here : All (IsHere new.net) rs
-    pub are : (v : ℕ → Bool) → map (passed_in new.net v) rs ≡ map (passed_by p (event_in p old.net e v) (stand p v old).cells) ss
+    pub are : (v : ℕ → Bool) → map (passed_in new.net v) rs
+        ≡ map (passed_by p (event_in p old.net e v) (stand p v old).cells) ss

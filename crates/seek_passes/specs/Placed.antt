@@ -23,7 +23,8 @@ IsCameBack x at test = (close : Spot) × (x ≡ Return close test) × (same_spot
 
 -- no call that comes back there passes it
 abbrev pub NoneCameBack : Point → Spot → Type 0
-NoneCameBack x at = (p : Program) (given : Option ℤ) (cells : List Cell) → passes p x (event.Return at given) cells ≡ false
+NoneCameBack x at =
+    (p : Program) (given : Option ℤ) (cells : List Cell) → passes p x (event.Return at given) cells ≡ false
 
 -- the way that is taken is the one that is asked for, if one is
 abbrev pub asks : Option Way → Way → Bool

@@ -19,16 +19,20 @@ use Rattle.seek_passes.specs.Charges.{told_weight}
 
 -- the mode keeps which numbers of segments are completed, and a violation counts where it completes them all
 pub record FollowsSegments (p : Program) (ss : List BoundSegment) (W : Mode) : Type 0 where
-  pub next : (e : RunEvent) (cells : List Cell) (completed : List Bool) → W.next e cells completed ≡ completed_after p ss e cells completed
-  pub counts : (e : RunEvent) (cells : List Cell) (completed : List Bool) → W.counts e cells completed ≡ completes_all p ss e cells completed
+  pub next : (e : RunEvent) (cells : List Cell) (completed : List Bool)
+      → W.next e cells completed ≡ completed_after p ss e cells completed
+  pub counts : (e : RunEvent) (cells : List Cell) (completed : List Bool)
+      → W.counts e cells completed ≡ completes_all p ss e cells completed
 
 -- an event is told
 pub record Tells (p : Program) (ss : List BoundSegment) (e : SymEvent) (old new : Sym) : Type 0 where
-  pub told : (W : Mode) → FollowsSegments p ss W → Turned p (told_weight p e ss) 0 old new (λ v. telling W (event_in p old.net e v))
+  pub told : (W : Mode) → FollowsSegments p ss W
+      → Turned p (told_weight p e ss) 0 old new (λ v. telling W (event_in p old.net e v))
   -- as many bits as before
   pub level : length new.completed.items ≡ length old.completed.items
 
 -- a bit that says at which violations of a full expression the run fails
 abbrev pub Counts : Program → List BoundSegment → Spot → Spot → Option Spot → Sym → Bit → Type 0
 Counts p ss statement full call s r =
-    (W : Mode) → FollowsSegments p ss W → Means s.net r (λ v. W.counts (Fail statement full call) (stand p v s).cells (stand p v s).completed)
+    (W : Mode) → FollowsSegments p ss W
+    → Means s.net r (λ v. W.counts (Fail statement full call) (stand p v s).cells (stand p v s).completed)

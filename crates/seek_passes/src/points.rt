@@ -1,11 +1,11 @@
 // Which runs pass a waypoint at an event.
-ghost use Rattle.std.specs.Prelude.{◌≡◌, ◌+◌, ◌<◌, ◌^◌, ℕ, ℤ, Bool, IfOk, List, MatchOption, length, map, not as negated};
-ghost use Rattle.std.specs.List.{All, list_any};
+ghost use Rattle.std.specs.Prelude.{◌≡◌, ◌+◌, ◌<◌, ◌^◌, ℕ, ℤ, Bool, IfOk, List, MatchOption, length};
+ghost use Rattle.std.specs.List.{All};
 ghost use Rattle.c_core.specs.Tree.{Program as pure_program};
 ghost use Rattle.c_core.specs.Typing.{labels_in};
 ghost use Rattle.c_core.specs.View.{program_view, expr_view, switch_view};
 ghost use Rattle.c_meaning.specs.Cells.{Cell};
-ghost use Rattle.c_meaning.specs.Run.{is_case, way_for};
+ghost use Rattle.c_meaning.specs.Run.{way_for};
 ghost use Rattle.c_meaning.specs.declared.run.Way.{Way as ways};
 ghost use Rattle.circuits.specs.Net.{holds, Means, IsIn};
 ghost use Rattle.circuits.specs.Numbers.{typed, AreIn, AreTyped};
@@ -15,7 +15,7 @@ ghost use Rattle.sym_values.specs.Valuing.{Decided};
 ghost use Rattle.way_match.specs.Passing.{passes};
 ghost use Rattle.way_match.specs.View.{point_view, points_view, test_view_if};
 ghost use Rattle.seek_passes.specs.Charges.{any_weight, placed_cost, point_weight};
-ghost use Rattle.seek_passes.specs.Event.{given_if};
+ghost use Rattle.seek_passes.specs.Event.{given_if, AreCasesOf, IsNoneOf};
 ghost use Rattle.seek_passes.specs.Passing.{IsPoint, CanTell, PassesPoint, PassesAny};
 ghost use Rattle.seek_passes.specs.Placed.{IsAssumed, NoneAssumed, IsCameBack, NoneCameBack, asks};
 
@@ -170,10 +170,10 @@ fn at_switch(net: &Net, point: &Point, at: Spot, arms: &[Arm], cases: &[Bit], no
     requires many { length cases.now ≡ length arms.now }
     requires none_in { IsIn net.now none }
     ensures { (z : (ℕ → Bool) → ℤ)
-        → ((v : ℕ → Bool) → map (holds v net.now) cases.now ≡ map (is_case (z v)) (labels_in (switch_view arms.now)))
-        → ((v : ℕ → Bool) → holds v net.now none ≡ negated (list_any (is_case (z v)) (labels_in (switch_view arms.now))))
+        → AreCasesOf net.now cases.now arms.now z → IsNoneOf net.now none arms.now z
         → (p : pure_program) (cells : (ℕ → Bool) → List Cell) → Means net.now result
-        (λ v. passes p (point_view point.now) (Event.Branch at (way_for (z v) (labels_in (switch_view arms.now)))) (cells v)) }
+        (λ v. passes p (point_view point.now) (Event.Branch at (way_for (z v) (labels_in (switch_view arms.now))))
+        (cells v)) }
 {
     match asked(point, at) {
         Some(way) => arm_way(net, way, arms, cases, none),

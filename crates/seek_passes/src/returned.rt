@@ -150,7 +150,8 @@ pub fn meets_at(
     requires fits { IsState (program_view program.now) sym.old }
     requires bits_in { AreTyped program.now.model ty sym.old.net bits.now.bits }
     requires gave_in { IsIn sym.old.net gave }
-    requires room { length sym.old.net + test_cost_if (program_view program.now) close (test_view_if test.now) < 2 ^ 27 }
+    requires room { length sym.old.net + test_cost_if (program_view program.now) close (test_view_if test.now)
+        < 2 ^ 27 }
     ensures { IfOk result (λ r. Decided (program_view program.now)
         (test_cost_if (program_view program.now) close (test_view_if test.now)) sym.old sym.new r
         (λ v. passing.meets_at (program_view program.now) close (test_view_if test.now)

@@ -1,11 +1,11 @@
 // Which runs take the way of a waypoint.
-ghost use Rattle.std.specs.Prelude.{◌≡◌, ℕ, ℤ, Bool, cond, length, map, not as negated};
-ghost use Rattle.std.specs.List.{list_any};
+ghost use Rattle.std.specs.Prelude.{◌≡◌, ℕ, ℤ, Bool, cond, length};
 ghost use Rattle.c_core.specs.Typing.{labels_in};
 ghost use Rattle.c_core.specs.View.{switch_view};
 ghost use Rattle.c_meaning.specs.Run.{is_case, way_for};
 ghost use Rattle.circuits.specs.Net.{holds, opposite, Means, IsIn};
 ghost use Rattle.circuits.specs.Numbers.{AreIn};
+ghost use Rattle.seek_passes.specs.Event.{AreCasesOf, IsNoneOf};
 ghost use Rattle.way_match.specs.Passing.{same_way};
 
 use crate::spots::known;
@@ -46,7 +46,7 @@ fn case_way(net: &Net, constant: i128, arms: &[Arm], cases: &[Bit]) -> Bit
     requires cases_in { AreIn net.now cases.now }
     requires many { length cases.now ≡ length arms.now }
     ensures { (z : (ℕ → Bool) → ℤ)
-        → ((v : ℕ → Bool) → map (holds v net.now) cases.now ≡ map (is_case (z v)) (labels_in (switch_view arms.now)))
+        → AreCasesOf net.now cases.now arms.now z
         → Means net.now result (λ v. same_way (Way.Case constant) (way_for (z v) (labels_in (switch_view arms.now)))) }
 {
     for (i, arm) in arms.iter().enumerate() {
@@ -63,8 +63,7 @@ pub fn arm_way(net: &Net, way: Way, arms: &[Arm], cases: &[Bit], none: Bit) -> B
     requires many { length cases.now ≡ length arms.now }
     requires none_in { IsIn net.now none }
     ensures { (z : (ℕ → Bool) → ℤ)
-        → ((v : ℕ → Bool) → map (holds v net.now) cases.now ≡ map (is_case (z v)) (labels_in (switch_view arms.now)))
-        → ((v : ℕ → Bool) → holds v net.now none ≡ negated (list_any (is_case (z v)) (labels_in (switch_view arms.now))))
+        → AreCasesOf net.now cases.now arms.now z → IsNoneOf net.now none arms.now z
         → Means net.now result (λ v. same_way way (way_for (z v) (labels_in (switch_view arms.now)))) }
 {
     match way {

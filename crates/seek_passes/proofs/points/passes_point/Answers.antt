@@ -51,7 +51,7 @@ at_switch-requires-clause-many c =
     cases_many c.args.sym.now.net c.in-Select.cases.now c.in-Select.arms.now _ h.cases_are
 
 pub at_switch-requires-clause-none_in : goal.at_switch-requires-clause-none_in
-at_switch-requires-clause-none_in c = (can_as (program_view c.args.program.now) (point_view c.args.point.now) c.in-Select.is c.requires.ready).event.none_is.inside
+at_switch-requires-clause-none_in c = (can_as (program_view c.args.program.now) (point_view c.args.point.now) c.in-Select.is c.requires.ready).event.none_in
 
 pub returns-in-Select : goal.returns-in-Select
 returns-in-Select c =
@@ -60,4 +60,4 @@ returns-in-Select c =
     let s = c.args.sym.now in
     let h = (can_as p x c.in-Select.is c.requires.ready).event in
     passes_as p x c.in-Select.is (passes_there p _ x s c.at_switch.result c.requires.ready.fits
-    (c.at_switch.ensures (λ v. typed p.model c.in-Select.ty v s.net c.in-Select.value.now.bits) h.cases_are h.none_is.is p (λ v. (stand p v s).cells)))
+    (c.at_switch.ensures (λ v. typed p.model c.in-Select.ty v s.net c.in-Select.value.now.bits) h.cases_are h.none_is p (λ v. (stand p v s).cells)))

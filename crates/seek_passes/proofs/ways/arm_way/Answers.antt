@@ -17,4 +17,4 @@ returns-in-Case c =
     λ z are none. case_of_switch c.args.net.now c.args.way c.in-Case.constant c.case_way.result (labels_in (switch_view c.args.arms.now)) c.in-Case.is z (case z are)
 
 pub returns-in-Default : goal.returns-in-Default
-returns-in-Default c = λ z are none. default_of_switch c.args.net.now c.args.way c.args.none (labels_in (switch_view c.args.arms.now)) c.in-Default.is c.requires.none_in z none
+returns-in-Default c = λ z are none. default_of_switch c.args.net.now c.args.way c.args.none c.args.arms.now c.in-Default.is c.requires.none_in z none
