@@ -4,6 +4,7 @@ ghost use Rattle.std.specs.List.{All};
 ghost use Rattle.c_core.specs.Typing.{labels_in};
 ghost use Rattle.c_core.specs.View.{switch_view};
 ghost use Rattle.c_meaning.specs.declared.run.Event.TheVariants as event;
+ghost use Rattle.c_meaning.specs.declared.run.Way.TheVariants.{Truth};
 ghost use Rattle.c_meaning.specs.Run.{way_for};
 ghost use Rattle.circuits.specs.Net.{holds, Means, IsIn};
 ghost use Rattle.circuits.specs.Numbers.{typed, AreIn, AreTyped};
@@ -74,19 +75,46 @@ pub fn begin(walk: &Walk, sym: &mut Sym, spot: Spot) -> Result<(), OutOfMemory>
     }
 }
 
-/// An event of all runs that are here. Obligations follow none.
-pub fn tell(walk: &Walk, sym: &mut Sym, event: &SymEvent) -> Result<(), OutOfMemory>
+// An event of all runs that are here. Obligations follow none.
+fn tell(walk: &Walk, sym: &mut Sym, event: &SymEvent) -> Result<(), OutOfMemory>
     requires walk { IsWalk walk.now }
     requires ready { IsReady (program_of walk.now) (mode_of walk.now) event.now sym.old }
     ensures { IfOk result (λ r. IsTold (program_of walk.now) (mode_of walk.now) event.now sym.old sym.new) }
 {
     match walk.mode {
-        Judging::Obliges(_) => Ok(()),
+        Judging::Obliges(mode) => Ok(()),
         Judging::Seeks(mode) => {
             follow(walk, sym, mode.segments, event)?;
             Ok(())
         }
     }
+}
+
+/// A call begins, at its closing parenthesis.
+pub fn tell_enter(walk: &Walk, sym: &mut Sym, close: Spot) -> Result<(), OutOfMemory>
+    requires walk { IsWalk walk.now }
+    requires fits { IsState (program_of walk.now) sym.old }
+    requires room { length sym.old.net + (mode_of walk.now).scale.enters close < 2 ^ 27 }
+    ensures { IfOk result (λ r. Turned (program_of walk.now) ((mode_of walk.now).scale.enters close) 0 sym.old sym.new
+        (λ v. telling (mode_of walk.now) (event.Enter close))) }
+{
+    let event = SymEvent::Enter(close);
+    tell(walk, sym, &event)?;
+    Ok(())
+}
+
+/// A controlling expression, or the test of `?:`, has this truth value.
+pub fn tell_branch(walk: &Walk, sym: &mut Sym, spot: Spot, truth: Bit) -> Result<(), OutOfMemory>
+    requires walk { IsWalk walk.now }
+    requires fits { IsState (program_of walk.now) sym.old }
+    requires truth_in { IsIn sym.old.net truth }
+    requires room { length sym.old.net + (mode_of walk.now).scale.test spot < 2 ^ 27 }
+    ensures { IfOk result (λ r. Turned (program_of walk.now) ((mode_of walk.now).scale.test spot) 0 sym.old sym.new
+        (λ v. telling (mode_of walk.now) (event.Branch spot (Truth (holds v sym.old.net truth))))) }
+{
+    let event = SymEvent::Branch(spot, truth);
+    tell(walk, sym, &event)?;
+    Ok(())
 }
 
 /// A call came back with the value of the bits, in their type.
@@ -180,7 +208,7 @@ pub fn tell_choice(
         (typed walk.now.program.now.model ty v sym.old.net value.now.bits) (labels_in (switch_view arms.now)))))) }
 {
     match walk.mode {
-        Judging::Obliges(_) => Ok(()),
+        Judging::Obliges(mode) => Ok(()),
         Judging::Seeks(mode) => {
             let none = no_case(walk.program, sym, cases)?;
             let event = SymEvent::Select {

@@ -7,6 +7,6 @@ mod hooks;
 mod violations;
 mod walk;
 
-pub use hooks::{begin, tell, tell_choice, tell_return, tell_value};
-pub use violations::{around, counts};
+pub use hooks::{begin, tell_branch, tell_choice, tell_enter, tell_return, tell_value};
+pub use violations::{around, operate, operate_one, reach};
 pub use walk::{Judging, Seeking, Walk};

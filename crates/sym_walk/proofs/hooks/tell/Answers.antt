@@ -7,7 +7,7 @@ use Rattle.sym_walk.proofs.hooks.tell.Goals as goal
 pub returns-in-Obliges : goal.returns-in-Obliges
 returns-in-Obliges c =
     let w = c.args.walk.now in
-    untold w c.in-Obliges.fields.0 c.in-Obliges.is (event_cost (program_of w) (mode_of w) c.args.event.now) c.args.sym.now (event_in (program_of w) c.args.sym.now.net c.args.event.now) c.requires.ready.fits
+    untold w c.in-Obliges.mode c.in-Obliges.is (event_cost (program_of w) (mode_of w) c.args.event.now) c.args.sym.now (event_in (program_of w) c.args.sym.now.net c.args.event.now) c.requires.ready.fits
 
 pub follow-requires-clause-segments-in-Seeks : goal.follow-requires-clause-segments-in-Seeks
 follow-requires-clause-segments-in-Seeks c = sought_walk c.args.walk.now c.in-Seeks.mode c.in-Seeks.is c.requires.walk

@@ -13,7 +13,7 @@ pub returns-in-Obliges : goal.returns-in-Obliges
 returns-in-Obliges c =
     let w = c.args.walk.now in
     let p = program_of w in
-    untold w c.in-Obliges.fields.0 c.in-Obliges.is (length c.args.cases.now + (mode_of w).scale.test c.args.spot) c.args.sym.now
+    untold w c.in-Obliges.mode c.in-Obliges.is (length c.args.cases.now + (mode_of w).scale.test c.args.spot) c.args.sym.now
     (λ v. event.Branch c.args.spot (way_for (typed p.model c.args.ty v c.args.sym.now.net c.args.value.now.bits) (labels_in (switch_view c.args.arms.now)))) c.requires.fits
 
 pub follow-requires-clause-segments-in-Seeks : goal.follow-requires-clause-segments-in-Seeks

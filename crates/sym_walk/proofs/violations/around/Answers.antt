@@ -9,4 +9,4 @@ pub returns-clause-duty-in-Obliges : goal.returns-clause-duty-in-Obliges
 returns-clause-duty-in-Obliges c = obliged_duty c.args.walk.now c.in-Obliges.mode c.in-Obliges.is c.around.result c.around.ensures.duty
 
 pub returns-clause-duty-in-Seeks : goal.returns-clause-duty-in-Seeks
-returns-clause-duty-in-Seeks c = seeks_duty c.args.walk.now c.in-Seeks.fields.0 c.in-Seeks.is _ refl
+returns-clause-duty-in-Seeks c = seeks_duty c.args.walk.now c.in-Seeks.mode c.in-Seeks.is _ refl
