@@ -241,17 +241,7 @@ pub fn step(
     let x = look_target(walk.alloc, walk.program, sym, &cell, a)?;
     let one = const_bits(walk.alloc, &sym.net, walk.program.model, IntType::Int, 1)?;
     let by = op_of_step(op);
-    let z = operate(
-        walk,
-        sym,
-        at,
-        e.spot,
-        by,
-        a,
-        &x,
-        IntType::Int,
-        &one,
-    )?;
+    let z = operate(walk, sym, at, e.spot, by, a, &x, IntType::Int, &one)?;
     let c = type_for(walk.program.model, by, a, IntType::Int);
     let w = store_target(walk.alloc, walk.program, sym, &cell, c, a, &z)?;
     Ok(value_of_step(is_prefix(op), w, x))

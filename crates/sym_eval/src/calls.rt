@@ -119,7 +119,15 @@ fn run_function(
         &function.body.form,
     )?;
     let back = come_back(walk.program, sym, caller, cells)?;
-    tell_return(walk, sym, close, function.result, ty, &back.value, back.gave)?;
+    tell_return(
+        walk,
+        sym,
+        close,
+        function.result,
+        ty,
+        &back.value,
+        back.gave,
+    )?;
     need(sym, walk.program, back.gave, needed)?;
     Ok(back.value)
 }

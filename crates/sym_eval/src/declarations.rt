@@ -10,9 +10,9 @@ use c_core::{Declared, Expr, First, Init, Row, Spot};
 use c_meaning::{DrawKind, size_of_object, type_of, type_of_object};
 use sym_elements::columns_of_object;
 use sym_flow::{declare, draw_cells};
-use sym_walk::Walk;
 use sym_state::{Sym, write};
 use sym_values::convert;
+use sym_walk::Walk;
 use wv_base::OutOfMemory;
 
 // One value of an initializer.

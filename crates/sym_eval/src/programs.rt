@@ -52,12 +52,7 @@ fn recursive(alloc: Global, program: &Program, function: u32) -> Result<Text, Ou
 
 /// The state after main's body, with calls at most `depth` deep: what it says of all judged runs. There are this many
 /// duties, and this many segments to follow.
-pub fn whole(
-    walk: &Walk,
-    duties: u32,
-    segments: u32,
-    depth: u32,
-) -> Result<Sym, OutOfMemory>
+pub fn whole(walk: &Walk, duties: u32, segments: u32, depth: u32) -> Result<Sym, OutOfMemory>
     requires walk { IsWalk walk.now }
     requires duties { duties ≡ length (mode_of walk.now).duties }
     requires light { IsLight (program_of walk.now) (mode_of walk.now) depth }
