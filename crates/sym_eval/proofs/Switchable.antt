@@ -26,10 +26,10 @@ use Rattle.c_meaning.specs.declared.run.Event.TheVariants.{Branch}
 use Rattle.c_meaning.specs.Run.{way_for}
 use Rattle.sym_meaning.specs.Judged.{judged, selected}
 use Rattle.sym_state.specs.Telling.{telling}
-use Rattle.sym_state.proofs.Telling.{told_follows, follows_map}
+use Rattle.sym_state.proofs.Telling.{told_as, told_follows}
 use Rattle.c_meaning.specs.Meaning.{Used}
 use Rattle.c_meaning.specs.Objects.{type_of}
-use Rattle.c_meaning.specs.Run.{arm_for}
+use Rattle.c_meaning.specs.Run.{arm_for, is_case}
 use Rattle.c_meaning.proofs.TypeFacts.{both, neither}
 use Rattle.circuits.specs.declared.net.Bit.{Bit}
 use Rattle.circuits.specs.declared.net.NetNode.{NetNode}
@@ -41,9 +41,9 @@ use Rattle.sym_state.specs.Standing.{Stand, stand, IsState, Turned, with_live}
 use Rattle.sym_state.specs.Following.{Follows}
 use Rattle.sym_state.proofs.Composed.{follows_then, net_follows}
 use Rattle.sym_choices.proofs.Labels.{label_of, labels_are, arms_more}
-use Rattle.sym_state.proofs.Nets.{in_added, holds_added, all_added, longer_by}
+use Rattle.sym_state.proofs.Nets.{in_added, holds_added, typed_added, all_added, all_held, longer_by}
 use Rattle.sym_choices.proofs.Held.{all_held}
-use Rattle.sym_state.proofs.Turning.{turned_as, turned_then}
+use Rattle.sym_state.proofs.Turning.{turned_then}
 use Rattle.sym_choices.specs.Cases.{AreCases, cases_cost}
 use Rattle.sym_values.specs.Valuing.{Reckoned}
 use Rattle.sym_choices.specs.Choosing.{done_from, Entered}

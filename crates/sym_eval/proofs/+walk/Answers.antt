@@ -22,7 +22,7 @@ use Rattle.sym_exprs.proofs.Forms.{first_ready, next_ready, wanted, unary_side, 
 use Rattle.sym_exprs.proofs.Choosing.{kept_in, where_ready, where_values, logic_first, logic_where, logic_second, logic_bits, logic_step, pick_first, pick_yes, pick_yes_value, pick_no, pick_no_value, pick_last, pick_step, void_no, void_step}
 use Rattle.sym_exprs.proofs.Assigning.{assign_target, step_target, assign_value, replace_sides, replace_step, update_sides, update_last, update_step, step_sides, step_last, step_step}
 use Rattle.sym_exprs.proofs.Calls.{site_of, input_values, reach_values, abort_values, exit_ready, exit_room, exit_values}
-use Rattle.sym_invariants.specs.Walking.{program_of, mode_of, invariants_of}
+use Rattle.sym_walk.specs.Walking.{program_of, mode_of}
 use Rattle.sym_eval.specs.Targets.{finding, finding_in, storing, Found}
 use Rattle.sym_eval.proofs.Nodes.{as_node, as_call, logic_alike, reach_alike, one_argument, one_counted}
 use Rattle.sym_eval.proofs.Found.{spent_target, spent_look, object_type, replace_cost, update_cost, target_kept, keys_kept, kept_twice, kept_thrice, stored_before, found_scalar, element_weighs, element_ready, element_type, element_room, element_values, index_ready, index_in, index_room, index_found, row_ready, column_ready, row_in, column_in, row_room, row_found}
@@ -41,7 +41,6 @@ use Rattle.sym_eval.proofs.Loopless.{no_loop}
 use Rattle.sym_eval.proofs.Turns.{stays_in, body_starts, body_ends, body_does, while_tests, while_goes_on, while_does, do_starts, do_tests, do_does, for_tests, for_goes_on, for_steps, for_turn_does, no_turn, head_room, turn_starts, head_room_again, outer_kept, loop_ends, loop_does, for_starts, for_arrives, for_does, for_ready, for_form, loop_ready, while_form, do_form, loop_within, for_within}
 use Rattle.sym_eval.specs.Calling.{AllValues, Sets, set_cost, CallReady, Called}
 use Rattle.sym_eval.proofs.Arguments.{argument_ready, first_values, next_values, argument_weight}
-use Rattle.sym_eval.proofs.Untold.{untold}
 use Rattle.sym_eval.proofs.Running.{entered_arguments, entered_room, body_ready, back_around, back_room, need_room, function_run}
 use Rattle.sym_eval.proofs.Reached.{ended_called, found_ready, found_called, arguments_ready, call_ready, call_values, found_weight}
 use Rattle.c_core.specs.Types.{promote_of}
@@ -231,7 +230,7 @@ expressions::unary-operate_one-requires-clause-room t c =
 
 pub expressions::unary-returns : goal.expressions::unary-returns
 expressions::unary-returns t c =
-    unary_step (program_of c.args.walk.now) (mode_of c.args.walk.now) c.args.depth c.args.at c.args.e.now.spot c.args.e.now.ty c.args.op (expr_view c.args.of.now) c.type_of.result c.type_of.ensures c.requires.ready c.in_ok-x.ensures (c.in_ok-r.ensures (mode_of c.args.walk.now) c.requires.ready.duty)
+    unary_step (program_of c.args.walk.now) (mode_of c.args.walk.now) c.args.depth c.args.at c.args.e.now.spot c.args.e.now.ty c.args.op (expr_view c.args.of.now) c.type_of.result c.type_of.ensures c.requires.ready c.in_ok-x.ensures c.in_ok-r.ensures
 
 pub expressions::binary-eval-requires : goal.expressions::binary-eval-requires
 expressions::binary-eval-requires t c =
@@ -259,7 +258,7 @@ expressions::binary-operate-requires-clause-room t c =
 
 pub expressions::binary-returns : goal.expressions::binary-returns
 expressions::binary-returns t c =
-    binary_step (program_of c.args.walk.now) (mode_of c.args.walk.now) c.args.depth c.args.at c.args.e.now.spot c.args.e.now.ty c.args.op (expr_view c.args.left.now) (expr_view c.args.right.now) c.type_of-a.result c.type_of-b.result c.type_of-a.ensures c.type_of-b.ensures c.requires.ready c.in_ok-x.ensures c.in_ok-y.ensures (c.in_ok-r.ensures (mode_of c.args.walk.now) c.requires.ready.duty)
+    binary_step (program_of c.args.walk.now) (mode_of c.args.walk.now) c.args.depth c.args.at c.args.e.now.spot c.args.e.now.ty c.args.op (expr_view c.args.left.now) (expr_view c.args.right.now) c.type_of-a.result c.type_of-b.result c.type_of-a.ensures c.type_of-b.ensures c.requires.ready c.in_ok-x.ensures c.in_ok-y.ensures c.in_ok-r.ensures
 
 pub expressions::cast-eval-requires : goal.expressions::cast-eval-requires
 expressions::cast-eval-requires t c =
@@ -416,45 +415,49 @@ expressions::pick-test-requires-clause-room t c =
 
 pub expressions::pick-eval_where-requires : goal.expressions::pick-eval_where-requires
 expressions::pick-eval_where-requires t c =
-    (omega (arith, c.decreases), (c.requires.walk, pick_yes (program_of c.args.walk.now) (mode_of c.args.walk.now) c.args.depth c.args.at c.args.spot c.args.mark (Some c.args.to) (expr_view c.args.condition.now) (expr_view c.args.yes.now) (expr_view c.args.no.now) c.type_of.result c.in_ok-go.go c.type_of.ensures c.requires.ready c.in_ok-e.ensures c.in_ok-go.ensures))
+    (omega (arith, c.decreases), (c.requires.walk, pick_yes (program_of c.args.walk.now) (mode_of c.args.walk.now) c.args.depth c.args.at c.args.spot c.args.mark (Some c.args.to) (expr_view c.args.condition.now) (expr_view c.args.yes.now) (expr_view c.args.no.now) c.type_of.result c.in_ok-go.go c.type_of.ensures c.requires.ready c.in_ok-e.ensures (branched (program_of c.args.walk.now) (mode_of c.args.walk.now) c.args.depth c.args.at c.args.mark c.type_of.result c.in_ok-go.go c.in_ok-go.ensures c.in_ok-tell_branch.ensures)))
 
 pub expressions::pick-convert-requires-clause-x_in : goal.expressions::pick-convert-requires-clause-x_in
 expressions::pick-convert-requires-clause-x_in t c =
-    (pick_yes_value (program_of c.args.walk.now) (mode_of c.args.walk.now) c.args.depth c.args.at c.args.spot c.args.mark c.args.to (expr_view c.args.condition.now) (expr_view c.args.yes.now) (expr_view c.args.no.now) c.type_of.result c.type_of-2.result c.in_ok-go.go c.type_of.ensures c.type_of-2.ensures c.requires.ready c.in_ok-e.ensures c.in_ok-go.ensures c.in_ok-x.ensures).0
+    (pick_yes_value (program_of c.args.walk.now) (mode_of c.args.walk.now) c.args.depth c.args.at c.args.spot c.args.mark c.args.to (expr_view c.args.condition.now) (expr_view c.args.yes.now) (expr_view c.args.no.now) c.type_of.result c.type_of-2.result c.in_ok-go.go c.type_of.ensures c.type_of-2.ensures c.requires.ready c.in_ok-e.ensures (branched (program_of c.args.walk.now) (mode_of c.args.walk.now) c.args.depth c.args.at c.args.mark c.type_of.result c.in_ok-go.go c.in_ok-go.ensures c.in_ok-tell_branch.ensures) c.in_ok-x.ensures).0
 
 pub expressions::pick-convert-requires-clause-room : goal.expressions::pick-convert-requires-clause-room
 expressions::pick-convert-requires-clause-room t c =
-    (pick_yes_value (program_of c.args.walk.now) (mode_of c.args.walk.now) c.args.depth c.args.at c.args.spot c.args.mark c.args.to (expr_view c.args.condition.now) (expr_view c.args.yes.now) (expr_view c.args.no.now) c.type_of.result c.type_of-2.result c.in_ok-go.go c.type_of.ensures c.type_of-2.ensures c.requires.ready c.in_ok-e.ensures c.in_ok-go.ensures c.in_ok-x.ensures).1
+    (pick_yes_value (program_of c.args.walk.now) (mode_of c.args.walk.now) c.args.depth c.args.at c.args.spot c.args.mark c.args.to (expr_view c.args.condition.now) (expr_view c.args.yes.now) (expr_view c.args.no.now) c.type_of.result c.type_of-2.result c.in_ok-go.go c.type_of.ensures c.type_of-2.ensures c.requires.ready c.in_ok-e.ensures (branched (program_of c.args.walk.now) (mode_of c.args.walk.now) c.args.depth c.args.at c.args.mark c.type_of.result c.in_ok-go.go c.in_ok-go.ensures c.in_ok-tell_branch.ensures) c.in_ok-x.ensures).1
 
 pub expressions::pick-eval_where-requires-2 : goal.expressions::pick-eval_where-requires-2
 expressions::pick-eval_where-requires-2 t c =
-    (omega (arith, c.decreases), (c.requires.walk, pick_no (program_of c.args.walk.now) (mode_of c.args.walk.now) c.args.depth c.args.at c.args.spot c.args.mark c.args.to (expr_view c.args.condition.now) (expr_view c.args.yes.now) (expr_view c.args.no.now) c.type_of.result c.type_of-2.result c.in_ok-go.go c.not-other.result c.type_of.ensures c.type_of-2.ensures c.not-other.ensures c.requires.ready c.in_ok-e.ensures c.in_ok-go.ensures c.in_ok-x.ensures c.in_ok-u.ensures))
+    (omega (arith, c.decreases), (c.requires.walk, pick_no (program_of c.args.walk.now) (mode_of c.args.walk.now) c.args.depth c.args.at c.args.spot c.args.mark c.args.to (expr_view c.args.condition.now) (expr_view c.args.yes.now) (expr_view c.args.no.now) c.type_of.result c.type_of-2.result c.in_ok-go.go c.not-other.result c.type_of.ensures c.type_of-2.ensures c.not-other.ensures c.requires.ready c.in_ok-e.ensures (branched (program_of c.args.walk.now) (mode_of c.args.walk.now) c.args.depth c.args.at c.args.mark c.type_of.result c.in_ok-go.go c.in_ok-go.ensures c.in_ok-tell_branch.ensures) c.in_ok-x.ensures c.in_ok-u.ensures))
 
 pub expressions::pick-convert-requires-2-clause-x_in : goal.expressions::pick-convert-requires-2-clause-x_in
 expressions::pick-convert-requires-2-clause-x_in t c =
-    (pick_no_value (program_of c.args.walk.now) (mode_of c.args.walk.now) c.args.depth c.args.at c.args.spot c.args.mark c.args.to (expr_view c.args.condition.now) (expr_view c.args.yes.now) (expr_view c.args.no.now) c.type_of.result c.type_of-2.result c.type_of-3.result c.in_ok-go.go c.not-other.result c.type_of.ensures c.type_of-2.ensures c.type_of-3.ensures c.requires.ready c.in_ok-e.ensures c.in_ok-go.ensures c.in_ok-x.ensures c.in_ok-u.ensures c.in_ok-y.ensures).0
+    (pick_no_value (program_of c.args.walk.now) (mode_of c.args.walk.now) c.args.depth c.args.at c.args.spot c.args.mark c.args.to (expr_view c.args.condition.now) (expr_view c.args.yes.now) (expr_view c.args.no.now) c.type_of.result c.type_of-2.result c.type_of-3.result c.in_ok-go.go c.not-other.result c.type_of.ensures c.type_of-2.ensures c.type_of-3.ensures c.requires.ready c.in_ok-e.ensures (branched (program_of c.args.walk.now) (mode_of c.args.walk.now) c.args.depth c.args.at c.args.mark c.type_of.result c.in_ok-go.go c.in_ok-go.ensures c.in_ok-tell_branch.ensures) c.in_ok-x.ensures c.in_ok-u.ensures c.in_ok-y.ensures).0
 
 pub expressions::pick-convert-requires-2-clause-room : goal.expressions::pick-convert-requires-2-clause-room
 expressions::pick-convert-requires-2-clause-room t c =
-    let r = (pick_no_value (program_of c.args.walk.now) (mode_of c.args.walk.now) c.args.depth c.args.at c.args.spot c.args.mark c.args.to (expr_view c.args.condition.now) (expr_view c.args.yes.now) (expr_view c.args.no.now) c.type_of.result c.type_of-2.result c.type_of-3.result c.in_ok-go.go c.not-other.result c.type_of.ensures c.type_of-2.ensures c.type_of-3.ensures c.requires.ready c.in_ok-e.ensures c.in_ok-go.ensures c.in_ok-x.ensures c.in_ok-u.ensures c.in_ok-y.ensures).1 in
+    let r = (pick_no_value (program_of c.args.walk.now) (mode_of c.args.walk.now) c.args.depth c.args.at c.args.spot c.args.mark c.args.to (expr_view c.args.condition.now) (expr_view c.args.yes.now) (expr_view c.args.no.now) c.type_of.result c.type_of-2.result c.type_of-3.result c.in_ok-go.go c.not-other.result c.type_of.ensures c.type_of-2.ensures c.type_of-3.ensures c.requires.ready c.in_ok-e.ensures (branched (program_of c.args.walk.now) (mode_of c.args.walk.now) c.args.depth c.args.at c.args.mark c.type_of.result c.in_ok-go.go c.in_ok-go.ensures c.in_ok-tell_branch.ensures) c.in_ok-x.ensures c.in_ok-u.ensures c.in_ok-y.ensures).1 in
     omega (arith, r)
 
 pub expressions::pick-choose-requires-clause-test_in : goal.expressions::pick-choose-requires-clause-test_in
 expressions::pick-choose-requires-clause-test_in t c =
-    (pick_last (program_of c.args.walk.now) (mode_of c.args.walk.now) c.args.depth c.args.at c.args.to (expr_view c.args.yes.now) (expr_view c.args.no.now) c.type_of-3.result c.in_ok-go.go c.not-other.result c.type_of-3.ensures c.in_ok-go.ensures.means.inside c.in_ok-x.ensures c.in_ok-u.ensures c.in_ok-y.ensures c.in_ok-w.ensures (pick_no_value (program_of c.args.walk.now) (mode_of c.args.walk.now) c.args.depth c.args.at c.args.spot c.args.mark c.args.to (expr_view c.args.condition.now) (expr_view c.args.yes.now) (expr_view c.args.no.now) c.type_of.result c.type_of-2.result c.type_of-3.result c.in_ok-go.go c.not-other.result c.type_of.ensures c.type_of-2.ensures c.type_of-3.ensures c.requires.ready c.in_ok-e.ensures c.in_ok-go.ensures c.in_ok-x.ensures c.in_ok-u.ensures c.in_ok-y.ensures).1).0
+    (pick_last (program_of c.args.walk.now) (mode_of c.args.walk.now) c.args.depth c.args.at c.args.to (expr_view c.args.yes.now) (expr_view c.args.no.now) c.type_of-3.result c.in_ok-go.go c.not-other.result c.type_of-3.ensures (branched (program_of c.args.walk.now) (mode_of c.args.walk.now) c.args.depth c.args.at c.args.mark c.type_of.result c.in_ok-go.go c.in_ok-go.ensures c.in_ok-tell_branch.ensures).inside c.in_ok-x.ensures c.in_ok-u.ensures c.in_ok-y.ensures c.in_ok-w.ensures (pick_no_value (program_of c.args.walk.now) (mode_of c.args.walk.now) c.args.depth c.args.at c.args.spot c.args.mark c.args.to (expr_view c.args.condition.now) (expr_view c.args.yes.now) (expr_view c.args.no.now) c.type_of.result c.type_of-2.result c.type_of-3.result c.in_ok-go.go c.not-other.result c.type_of.ensures c.type_of-2.ensures c.type_of-3.ensures c.requires.ready c.in_ok-e.ensures (branched (program_of c.args.walk.now) (mode_of c.args.walk.now) c.args.depth c.args.at c.args.mark c.type_of.result c.in_ok-go.go c.in_ok-go.ensures c.in_ok-tell_branch.ensures) c.in_ok-x.ensures c.in_ok-u.ensures c.in_ok-y.ensures).1).0
 
 pub expressions::pick-choose-requires-clause-yes_in : goal.expressions::pick-choose-requires-clause-yes_in
 expressions::pick-choose-requires-clause-yes_in t c =
-    (pick_last (program_of c.args.walk.now) (mode_of c.args.walk.now) c.args.depth c.args.at c.args.to (expr_view c.args.yes.now) (expr_view c.args.no.now) c.type_of-3.result c.in_ok-go.go c.not-other.result c.type_of-3.ensures c.in_ok-go.ensures.means.inside c.in_ok-x.ensures c.in_ok-u.ensures c.in_ok-y.ensures c.in_ok-w.ensures (pick_no_value (program_of c.args.walk.now) (mode_of c.args.walk.now) c.args.depth c.args.at c.args.spot c.args.mark c.args.to (expr_view c.args.condition.now) (expr_view c.args.yes.now) (expr_view c.args.no.now) c.type_of.result c.type_of-2.result c.type_of-3.result c.in_ok-go.go c.not-other.result c.type_of.ensures c.type_of-2.ensures c.type_of-3.ensures c.requires.ready c.in_ok-e.ensures c.in_ok-go.ensures c.in_ok-x.ensures c.in_ok-u.ensures c.in_ok-y.ensures).1).1
+    (pick_last (program_of c.args.walk.now) (mode_of c.args.walk.now) c.args.depth c.args.at c.args.to (expr_view c.args.yes.now) (expr_view c.args.no.now) c.type_of-3.result c.in_ok-go.go c.not-other.result c.type_of-3.ensures (branched (program_of c.args.walk.now) (mode_of c.args.walk.now) c.args.depth c.args.at c.args.mark c.type_of.result c.in_ok-go.go c.in_ok-go.ensures c.in_ok-tell_branch.ensures).inside c.in_ok-x.ensures c.in_ok-u.ensures c.in_ok-y.ensures c.in_ok-w.ensures (pick_no_value (program_of c.args.walk.now) (mode_of c.args.walk.now) c.args.depth c.args.at c.args.spot c.args.mark c.args.to (expr_view c.args.condition.now) (expr_view c.args.yes.now) (expr_view c.args.no.now) c.type_of.result c.type_of-2.result c.type_of-3.result c.in_ok-go.go c.not-other.result c.type_of.ensures c.type_of-2.ensures c.type_of-3.ensures c.requires.ready c.in_ok-e.ensures (branched (program_of c.args.walk.now) (mode_of c.args.walk.now) c.args.depth c.args.at c.args.mark c.type_of.result c.in_ok-go.go c.in_ok-go.ensures c.in_ok-tell_branch.ensures) c.in_ok-x.ensures c.in_ok-u.ensures c.in_ok-y.ensures).1).1
 
 pub expressions::pick-choose-requires-clause-room : goal.expressions::pick-choose-requires-clause-room
 expressions::pick-choose-requires-clause-room t c =
-    (pick_last (program_of c.args.walk.now) (mode_of c.args.walk.now) c.args.depth c.args.at c.args.to (expr_view c.args.yes.now) (expr_view c.args.no.now) c.type_of-3.result c.in_ok-go.go c.not-other.result c.type_of-3.ensures c.in_ok-go.ensures.means.inside c.in_ok-x.ensures c.in_ok-u.ensures c.in_ok-y.ensures c.in_ok-w.ensures (pick_no_value (program_of c.args.walk.now) (mode_of c.args.walk.now) c.args.depth c.args.at c.args.spot c.args.mark c.args.to (expr_view c.args.condition.now) (expr_view c.args.yes.now) (expr_view c.args.no.now) c.type_of.result c.type_of-2.result c.type_of-3.result c.in_ok-go.go c.not-other.result c.type_of.ensures c.type_of-2.ensures c.type_of-3.ensures c.requires.ready c.in_ok-e.ensures c.in_ok-go.ensures c.in_ok-x.ensures c.in_ok-u.ensures c.in_ok-y.ensures).1).2
+    (pick_last (program_of c.args.walk.now) (mode_of c.args.walk.now) c.args.depth c.args.at c.args.to (expr_view c.args.yes.now) (expr_view c.args.no.now) c.type_of-3.result c.in_ok-go.go c.not-other.result c.type_of-3.ensures (branched (program_of c.args.walk.now) (mode_of c.args.walk.now) c.args.depth c.args.at c.args.mark c.type_of.result c.in_ok-go.go c.in_ok-go.ensures c.in_ok-tell_branch.ensures).inside c.in_ok-x.ensures c.in_ok-u.ensures c.in_ok-y.ensures c.in_ok-w.ensures (pick_no_value (program_of c.args.walk.now) (mode_of c.args.walk.now) c.args.depth c.args.at c.args.spot c.args.mark c.args.to (expr_view c.args.condition.now) (expr_view c.args.yes.now) (expr_view c.args.no.now) c.type_of.result c.type_of-2.result c.type_of-3.result c.in_ok-go.go c.not-other.result c.type_of.ensures c.type_of-2.ensures c.type_of-3.ensures c.requires.ready c.in_ok-e.ensures (branched (program_of c.args.walk.now) (mode_of c.args.walk.now) c.args.depth c.args.at c.args.mark c.type_of.result c.in_ok-go.go c.in_ok-go.ensures c.in_ok-tell_branch.ensures) c.in_ok-x.ensures c.in_ok-u.ensures c.in_ok-y.ensures).1).2
+
+pub expressions::pick-tell_branch-requires-clause-room : goal.expressions::pick-tell_branch-requires-clause-room
+expressions::pick-tell_branch-requires-clause-room t c =
+    branch_room (program_of c.args.walk.now) (mode_of c.args.walk.now) c.args.depth c.args.at c.args.spot c.args.mark (Some c.args.to) (expr_view c.args.condition.now) (expr_view c.args.yes.now) (expr_view c.args.no.now) c.type_of.result c.in_ok-go.go c.type_of.ensures c.requires.ready c.in_ok-e.ensures c.in_ok-go.ensures
 
 pub expressions::pick-returns : goal.expressions::pick-returns
 expressions::pick-returns t c =
-    pick_step (program_of c.args.walk.now) (mode_of c.args.walk.now) c.args.depth c.args.at 0 c.args.spot c.args.mark c.args.to (expr_view c.args.condition.now) (expr_view c.args.yes.now) (expr_view c.args.no.now) c.type_of.result c.type_of-2.result c.type_of-3.result c.in_ok-go.go c.not-other.result c.type_of.ensures c.type_of-2.ensures c.type_of-3.ensures c.requires.ready c.in_ok-e.ensures c.in_ok-go.ensures c.not-other.ensures
-    (untold c.args.walk.now c.test.new.sym (λ v. Branch c.args.mark (Truth (not (is_zero (typed c.args.walk.now.program.now.model c.type_of.result v c.eval.new.sym.net c.in_ok-e.e.bits))))) c.in_ok-go.ensures.turned.fits) (omega arith)
+    pick_step (program_of c.args.walk.now) (mode_of c.args.walk.now) c.args.depth c.args.at ((mode_of c.args.walk.now).scale.test c.args.mark) c.args.spot c.args.mark c.args.to (expr_view c.args.condition.now) (expr_view c.args.yes.now) (expr_view c.args.no.now) c.type_of.result c.type_of-2.result c.type_of-3.result c.in_ok-go.go c.not-other.result c.type_of.ensures c.type_of-2.ensures c.type_of-3.ensures c.requires.ready c.in_ok-e.ensures c.in_ok-go.ensures c.not-other.ensures
+    (told_as (program_of c.args.walk.now) (mode_of c.args.walk.now) (λ v. Branch c.args.mark (Truth (not (is_zero (typed c.args.walk.now.program.now.model c.type_of.result v c.eval.new.sym.net c.in_ok-e.e.bits))))) c.in_ok-tell_branch.ensures (λ v. ap (λ t. Branch c.args.mark (Truth t)) (c.in_ok-go.ensures.means.is v))) (omega arith)
     c.in_ok-x.ensures c.in_ok-u.ensures c.in_ok-y.ensures c.in_ok-w.ensures c.in_ok-r.ensures
 
 pub expressions::void_arms-eval-requires : goal.expressions::void_arms-eval-requires
@@ -471,16 +474,20 @@ expressions::void_arms-test-requires-clause-room t c =
 
 pub expressions::void_arms-eval_where-requires : goal.expressions::void_arms-eval_where-requires
 expressions::void_arms-eval_where-requires t c =
-    (omega (arith, c.decreases), (c.requires.walk, pick_yes (program_of c.args.walk.now) (mode_of c.args.walk.now) c.args.depth c.args.at c.args.spot c.args.mark None (expr_view c.args.condition.now) (expr_view c.args.yes.now) (expr_view c.args.no.now) c.type_of.result c.in_ok-go.go c.type_of.ensures c.requires.ready c.in_ok-e.ensures c.in_ok-go.ensures))
+    (omega (arith, c.decreases), (c.requires.walk, pick_yes (program_of c.args.walk.now) (mode_of c.args.walk.now) c.args.depth c.args.at c.args.spot c.args.mark None (expr_view c.args.condition.now) (expr_view c.args.yes.now) (expr_view c.args.no.now) c.type_of.result c.in_ok-go.go c.type_of.ensures c.requires.ready c.in_ok-e.ensures (branched (program_of c.args.walk.now) (mode_of c.args.walk.now) c.args.depth c.args.at c.args.mark c.type_of.result c.in_ok-go.go c.in_ok-go.ensures c.in_ok-tell_branch.ensures)))
 
 pub expressions::void_arms-eval_where-requires-2 : goal.expressions::void_arms-eval_where-requires-2
 expressions::void_arms-eval_where-requires-2 t c =
-    (omega (arith, c.decreases), (c.requires.walk, void_no (program_of c.args.walk.now) (mode_of c.args.walk.now) c.args.depth c.args.at c.args.spot c.args.mark (expr_view c.args.condition.now) (expr_view c.args.yes.now) (expr_view c.args.no.now) c.type_of.result c.in_ok-go.go c.not-other.result c.type_of.ensures c.not-other.ensures c.requires.ready c.in_ok-e.ensures c.in_ok-go.ensures c.in_ok-_nothing.ensures))
+    (omega (arith, c.decreases), (c.requires.walk, void_no (program_of c.args.walk.now) (mode_of c.args.walk.now) c.args.depth c.args.at c.args.spot c.args.mark (expr_view c.args.condition.now) (expr_view c.args.yes.now) (expr_view c.args.no.now) c.type_of.result c.in_ok-go.go c.not-other.result c.type_of.ensures c.not-other.ensures c.requires.ready c.in_ok-e.ensures (branched (program_of c.args.walk.now) (mode_of c.args.walk.now) c.args.depth c.args.at c.args.mark c.type_of.result c.in_ok-go.go c.in_ok-go.ensures c.in_ok-tell_branch.ensures) c.in_ok-_nothing.ensures))
+
+pub expressions::void_arms-tell_branch-requires-clause-room : goal.expressions::void_arms-tell_branch-requires-clause-room
+expressions::void_arms-tell_branch-requires-clause-room t c =
+    branch_room (program_of c.args.walk.now) (mode_of c.args.walk.now) c.args.depth c.args.at c.args.spot c.args.mark None (expr_view c.args.condition.now) (expr_view c.args.yes.now) (expr_view c.args.no.now) c.type_of.result c.in_ok-go.go c.type_of.ensures c.requires.ready c.in_ok-e.ensures c.in_ok-go.ensures
 
 pub expressions::void_arms-returns : goal.expressions::void_arms-returns
 expressions::void_arms-returns t c =
-    void_step (program_of c.args.walk.now) (mode_of c.args.walk.now) c.args.depth c.args.at 0 c.args.spot c.args.mark (expr_view c.args.condition.now) (expr_view c.args.yes.now) (expr_view c.args.no.now) c.type_of.result c.in_ok-go.go c.not-other.result c.type_of.ensures c.requires.ready c.in_ok-e.ensures c.in_ok-go.ensures c.not-other.ensures
-    (untold c.args.walk.now c.test.new.sym (λ v. Branch c.args.mark (Truth (not (is_zero (typed c.args.walk.now.program.now.model c.type_of.result v c.eval.new.sym.net c.in_ok-e.e.bits))))) c.in_ok-go.ensures.turned.fits) (omega arith)
+    void_step (program_of c.args.walk.now) (mode_of c.args.walk.now) c.args.depth c.args.at ((mode_of c.args.walk.now).scale.test c.args.mark) c.args.spot c.args.mark (expr_view c.args.condition.now) (expr_view c.args.yes.now) (expr_view c.args.no.now) c.type_of.result c.in_ok-go.go c.not-other.result c.type_of.ensures c.requires.ready c.in_ok-e.ensures c.in_ok-go.ensures c.not-other.ensures
+    (told_as (program_of c.args.walk.now) (mode_of c.args.walk.now) (λ v. Branch c.args.mark (Truth (not (is_zero (typed c.args.walk.now.program.now.model c.type_of.result v c.eval.new.sym.net c.in_ok-e.e.bits))))) c.in_ok-tell_branch.ensures (λ v. ap (λ t. Branch c.args.mark (Truth t)) (c.in_ok-go.ensures.means.is v))) (omega arith)
     c.in_ok-_nothing.ensures c.in_ok-r.ensures
 
 pub expressions::call-call_defined-requires : goal.expressions::call-call_defined-requires
@@ -493,20 +500,20 @@ expressions::call-returns-in-Defined t c =
 
 pub expressions::call-returns-in_ok-r-in-Input : goal.expressions::call-returns-in_ok-r-in-Input
 expressions::call-returns-in_ok-r-in-Input t c =
-    subst (λ k. Values (program_of c.args.walk.now) (mode_of c.args.walk.now) c.args.depth c.args.at (use_of c.args.used) (Expr c.args.e.now.spot c.args.e.now.ty (Call k (exprs_view c.args.args.now) c.args.close)) c.args.sym.now c.input.new.sym c.in_ok-r-in-Input.r.bits) (sym c.in-Input.is)
-    (wanted (program_of c.args.walk.now) (mode_of c.args.walk.now) c.args.depth c.args.at (use_of c.args.used) (Expr c.args.e.now.spot c.args.e.now.ty (Call (Input c.in-Input.of) (exprs_view c.args.args.now) c.args.close)) (λ v l. refl) (input_values (program_of c.args.walk.now) (mode_of c.args.walk.now) c.args.depth c.args.at 0 0 c.args.e.now.spot c.args.close c.args.e.now.ty c.in-Input.of (exprs_view c.args.args.now) (subst (λ k. Ready (program_of c.args.walk.now) (mode_of c.args.walk.now) c.args.depth c.args.at c.args.sym.now (Expr c.args.e.now.spot c.args.e.now.ty (Call k (exprs_view c.args.args.now) c.args.close))) c.in-Input.is c.requires.ready) (untold c.args.walk.now c.args.sym.now (λ v. Enter c.args.close) c.requires.ready.fits) (c.in_ok-r-in-Input.ensures (mode_of c.args.walk.now))
-    (untold c.args.walk.now c.input.new.sym (λ v. Returned c.args.close (Some (typed c.args.walk.now.program.now.model c.in-Input.of v c.input.new.sym.net c.in_ok-r-in-Input.r.bits))) (c.in_ok-r-in-Input.ensures (mode_of c.args.walk.now)).follows.fits) (omega arith)))
+    subst (λ k. Values (program_of c.args.walk.now) (mode_of c.args.walk.now) c.args.depth c.args.at (use_of c.args.used) (Expr c.args.e.now.spot c.args.e.now.ty (Call k (exprs_view c.args.args.now) c.args.close)) c.args.sym.now c.tell_value.new.sym c.in_ok-r-in-Input.r.bits) (sym c.in-Input.is)
+    (wanted (program_of c.args.walk.now) (mode_of c.args.walk.now) c.args.depth c.args.at (use_of c.args.used) (Expr c.args.e.now.spot c.args.e.now.ty (Call (Input c.in-Input.of) (exprs_view c.args.args.now) c.args.close)) (λ v l. refl) (input_values (program_of c.args.walk.now) (mode_of c.args.walk.now) c.args.depth c.args.at ((mode_of c.args.walk.now).scale.enters c.args.close) ((mode_of c.args.walk.now).scale.returns c.args.close) c.args.e.now.spot c.args.close c.args.e.now.ty c.in-Input.of (exprs_view c.args.args.now) (subst (λ k. Ready (program_of c.args.walk.now) (mode_of c.args.walk.now) c.args.depth c.args.at c.args.sym.now (Expr c.args.e.now.spot c.args.e.now.ty (Call k (exprs_view c.args.args.now) c.args.close))) c.in-Input.is c.requires.ready) c.in_ok-tell_enter-in-Input.ensures (c.in_ok-r-in-Input.ensures (mode_of c.args.walk.now))
+    c.in_ok-tell_value-in-Input.ensures (omega arith) (omega arith)))
 
 pub expressions::call-returns-in_ok-reach-in-ReachError : goal.expressions::call-returns-in_ok-reach-in-ReachError
 expressions::call-returns-in_ok-reach-in-ReachError t c =
     subst (λ k. Values (program_of c.args.walk.now) (mode_of c.args.walk.now) c.args.depth c.args.at (use_of c.args.used) (Expr c.args.e.now.spot c.args.e.now.ty (Call k (exprs_view c.args.args.now) c.args.close)) c.args.sym.now c.reach.new.sym c.new-bits.result) (sym c.in-ReachError.is)
-    (wanted (program_of c.args.walk.now) (mode_of c.args.walk.now) c.args.depth c.args.at (use_of c.args.used) (Expr c.args.e.now.spot c.args.e.now.ty (Call ReachError (exprs_view c.args.args.now) c.args.close)) (λ v l. reach_alike (program_of c.args.walk.now) (mode_of c.args.walk.now) c.args.depth c.args.at (use_of c.args.used) c.args.e.now.spot c.args.close c.args.e.now.ty (exprs_view c.args.args.now) v l) (reach_values (program_of c.args.walk.now) (mode_of c.args.walk.now) c.args.depth c.args.at 0 c.new-bits.result c.args.e.now.spot c.args.close c.args.e.now.ty (exprs_view c.args.args.now) (subst (λ k. Ready (program_of c.args.walk.now) (mode_of c.args.walk.now) c.args.depth c.args.at c.args.sym.now (Expr c.args.e.now.spot c.args.e.now.ty (Call k (exprs_view c.args.args.now) c.args.close))) c.in-ReachError.is c.requires.ready) (untold c.args.walk.now c.args.sym.now (λ v. Enter c.args.close) c.requires.ready.fits)
-    (c.in_ok-reach-in-ReachError.ensures (mode_of c.args.walk.now) (site_of (program_of c.args.walk.now) (mode_of c.args.walk.now) c.args.depth c.args.at c.args.e.now.spot c.args.close c.args.e.now.ty) c.requires.ready.duty) (omega arith)))
+    (wanted (program_of c.args.walk.now) (mode_of c.args.walk.now) c.args.depth c.args.at (use_of c.args.used) (Expr c.args.e.now.spot c.args.e.now.ty (Call ReachError (exprs_view c.args.args.now) c.args.close)) (λ v l. reach_alike (program_of c.args.walk.now) (mode_of c.args.walk.now) c.args.depth c.args.at (use_of c.args.used) c.args.e.now.spot c.args.close c.args.e.now.ty (exprs_view c.args.args.now) v l) (reach_values (program_of c.args.walk.now) (mode_of c.args.walk.now) c.args.depth c.args.at ((mode_of c.args.walk.now).scale.enters c.args.close) c.new-bits.result c.args.e.now.spot c.args.close c.args.e.now.ty (exprs_view c.args.args.now) (subst (λ k. Ready (program_of c.args.walk.now) (mode_of c.args.walk.now) c.args.depth c.args.at c.args.sym.now (Expr c.args.e.now.spot c.args.e.now.ty (Call k (exprs_view c.args.args.now) c.args.close))) c.in-ReachError.is c.requires.ready) c.in_ok-tell_enter-in-ReachError.ensures
+    (c.in_ok-reach-in-ReachError.ensures (site_of (program_of c.args.walk.now) (mode_of c.args.walk.now) c.args.depth c.args.at c.args.e.now.spot c.args.close c.args.e.now.ty) refl) (omega arith)))
 
 pub expressions::call-returns-in_ok-end-in-Abort : goal.expressions::call-returns-in_ok-end-in-Abort
 expressions::call-returns-in_ok-end-in-Abort t c =
     subst (λ k. Values (program_of c.args.walk.now) (mode_of c.args.walk.now) c.args.depth c.args.at (use_of c.args.used) (Expr c.args.e.now.spot c.args.e.now.ty (Call k (exprs_view c.args.args.now) c.args.close)) c.args.sym.now c.end.new.sym c.new-bits-in-Abort.result) (sym c.in-Abort.is)
-    (wanted (program_of c.args.walk.now) (mode_of c.args.walk.now) c.args.depth c.args.at (use_of c.args.used) (Expr c.args.e.now.spot c.args.e.now.ty (Call Abort (exprs_view c.args.args.now) c.args.close)) (λ v l. refl) (abort_values (program_of c.args.walk.now) (mode_of c.args.walk.now) c.args.depth c.args.at 0 c.new-bits-in-Abort.result c.args.e.now.spot c.args.close c.args.e.now.ty (exprs_view c.args.args.now) (subst (λ k. Ready (program_of c.args.walk.now) (mode_of c.args.walk.now) c.args.depth c.args.at c.args.sym.now (Expr c.args.e.now.spot c.args.e.now.ty (Call k (exprs_view c.args.args.now) c.args.close))) c.in-Abort.is c.requires.ready) (untold c.args.walk.now c.args.sym.now (λ v. Enter c.args.close) c.requires.ready.fits) (c.in_ok-end-in-Abort.ensures (mode_of c.args.walk.now)) (omega arith)))
+    (wanted (program_of c.args.walk.now) (mode_of c.args.walk.now) c.args.depth c.args.at (use_of c.args.used) (Expr c.args.e.now.spot c.args.e.now.ty (Call Abort (exprs_view c.args.args.now) c.args.close)) (λ v l. refl) (abort_values (program_of c.args.walk.now) (mode_of c.args.walk.now) c.args.depth c.args.at ((mode_of c.args.walk.now).scale.enters c.args.close) c.new-bits-in-Abort.result c.args.e.now.spot c.args.close c.args.e.now.ty (exprs_view c.args.args.now) (subst (λ k. Ready (program_of c.args.walk.now) (mode_of c.args.walk.now) c.args.depth c.args.at c.args.sym.now (Expr c.args.e.now.spot c.args.e.now.ty (Call k (exprs_view c.args.args.now) c.args.close))) c.in-Abort.is c.requires.ready) c.in_ok-tell_enter-in-Abort.ensures (c.in_ok-end-in-Abort.ensures (mode_of c.args.walk.now)) (omega arith)))
 
 pub expressions::call-exit-requires : goal.expressions::call-exit-requires
 expressions::call-exit-requires t c =
@@ -540,7 +547,7 @@ expressions::exit-returns t c =
     let counted = exit_counts (program_of c.args.walk.now) c.args.e.now.spot c.args.close c.args.e.now.ty (exprs_view c.args.args.now) c.requires.ready.types in
     let one : exprs_view c.args.args.now ≡ MoreExp (expr_view c.index-args-0.result) NoExp = one_argument c.args.args.now c.index-args-0.result counted ∙ ap (λ x. MoreExp (expr_view x) NoExp) (sym c.index-args-0.is) in
     let ready = subst (λ k. Ready (program_of c.args.walk.now) (mode_of c.args.walk.now) c.args.depth c.args.at c.args.sym.now (Expr c.args.e.now.spot c.args.e.now.ty (Call Exit k c.args.close))) one c.requires.ready in
-    subst (λ k. Values (program_of c.args.walk.now) (mode_of c.args.walk.now) c.args.depth c.args.at Used (Expr c.args.e.now.spot c.args.e.now.ty (Call Exit k c.args.close)) c.args.sym.now c.end.new.sym c.in_ok-r.r.bits) (sym one) (exit_values (program_of c.args.walk.now) (mode_of c.args.walk.now) c.args.depth c.args.at 0 c.in_ok-r.r.bits c.args.e.now.spot c.args.close c.args.e.now.ty (expr_view c.index-args-0.result) ready c.in_ok-r.ensures (untold c.args.walk.now c.eval.new.sym (λ v. Enter c.args.close) c.in_ok-r.ensures.follows.fits) (c.in_ok-end.ensures (mode_of c.args.walk.now)) (omega arith))
+    subst (λ k. Values (program_of c.args.walk.now) (mode_of c.args.walk.now) c.args.depth c.args.at Used (Expr c.args.e.now.spot c.args.e.now.ty (Call Exit k c.args.close)) c.args.sym.now c.end.new.sym c.in_ok-r.r.bits) (sym one) (exit_values (program_of c.args.walk.now) (mode_of c.args.walk.now) c.args.depth c.args.at ((mode_of c.args.walk.now).scale.enters c.args.close) c.in_ok-r.r.bits c.args.e.now.spot c.args.close c.args.e.now.ty (expr_view c.index-args-0.result) ready c.in_ok-r.ensures c.in_ok-tell_enter.ensures (c.in_ok-end.ensures (mode_of c.args.walk.now)) (omega arith))
 
 pub assignments::target-indexed-requires : goal.assignments::target-indexed-requires
 assignments::target-indexed-requires t c =
@@ -689,7 +696,7 @@ assignments::update-operate-requires-clause-room t c =
     (update_sides (program_of c.args.walk.now) (mode_of c.args.walk.now) c.args.depth c.args.at c.args.e.now.spot c.args.e.now.ty c.args.op (expr_view c.args.to.now) (expr_view c.args.from.now) c.type_of-a.result c.type_of-b.result c.type_of-a.ensures c.type_of-b.ensures c.requires.ready c.in_ok-cell.ensures.targets look c.in_ok-y.ensures (omega (arith, few))).2
 
 pub assignments::update-store_target-requires-clause-fits : goal.assignments::update-store_target-requires-clause-fits
-assignments::update-store_target-requires-clause-fits t c = (c.in_ok-z.ensures (mode_of c.args.walk.now) c.requires.ready.duty).follows.fits
+assignments::update-store_target-requires-clause-fits t c = c.in_ok-z.ensures.follows.fits
 
 pub assignments::update-store_target-requires-clause-typed : goal.assignments::update-store_target-requires-clause-typed
 assignments::update-store_target-requires-clause-typed t c =
@@ -699,7 +706,7 @@ assignments::update-store_target-requires-clause-typed t c =
 pub assignments::update-store_target-requires-clause-is : goal.assignments::update-store_target-requires-clause-is
 assignments::update-store_target-requires-clause-is t c =
     let look = c.in_ok-x.ensures (mode_of c.args.walk.now) in
-    let done = c.in_ok-z.ensures (mode_of c.args.walk.now) c.requires.ready.duty in
+    let done = c.in_ok-z.ensures in
     let kept = kept_thrice (program_of c.args.walk.now) (mode_of c.args.walk.now) c.in_ok-cell.cell c.in_ok-cell.ensures.is look.follows c.in_ok-y.ensures.follows done.follows in
     kept.0
 
@@ -707,7 +714,7 @@ pub assignments::update-store_target-requires-clause-value_in : goal.assignments
 assignments::update-store_target-requires-clause-value_in t c =
     let q = assign_parts (program_of c.args.walk.now) c.args.e.now.spot c.args.e.now.ty (Some c.args.op) (expr_view c.args.to.now) (expr_view c.args.from.now) c.requires.ready.types in
     let look = c.in_ok-x.ensures (mode_of c.args.walk.now) in
-    let done = c.in_ok-z.ensures (mode_of c.args.walk.now) c.requires.ready.duty in
+    let done = c.in_ok-z.ensures in
     let tc : c.type_for-c.result ≡ type_for (program_of c.args.walk.now).model c.args.op (type_of (expr_view c.args.to.now)) (type_of (expr_view c.args.from.now)) = c.type_for-c.ensures.value ∙ ap₂ (λ i j. type_for (program_of c.args.walk.now).model c.args.op i j) c.type_of-a.ensures c.type_of-b.ensures in
     let cost = update_cost (program_of c.args.walk.now) (expr_view c.args.to.now) c.in_ok-cell.cell c.type_for-c.result (type_for (program_of c.args.walk.now).model c.args.op (type_of (expr_view c.args.to.now)) (type_of (expr_view c.args.from.now))) tc c.in_ok-cell.ensures.meant q.target q.typed_target in
     (update_last (program_of c.args.walk.now) (mode_of c.args.walk.now) c.args.depth c.args.at (storing (program_of c.args.walk.now) c.type_for-c.result c.in_ok-cell.cell) c.args.e.now.spot c.args.e.now.ty c.args.op (expr_view c.args.to.now) (expr_view c.args.from.now) c.type_of-a.result c.type_of-b.result c.type_for-c.result c.type_of-a.ensures c.type_of-b.ensures c.type_for-c.ensures.value c.requires.ready c.in_ok-cell.ensures.targets look c.in_ok-y.ensures done cost).0
@@ -716,7 +723,7 @@ pub assignments::update-store_target-requires-clause-room : goal.assignments::up
 assignments::update-store_target-requires-clause-room t c =
     let q = assign_parts (program_of c.args.walk.now) c.args.e.now.spot c.args.e.now.ty (Some c.args.op) (expr_view c.args.to.now) (expr_view c.args.from.now) c.requires.ready.types in
     let look = c.in_ok-x.ensures (mode_of c.args.walk.now) in
-    let done = c.in_ok-z.ensures (mode_of c.args.walk.now) c.requires.ready.duty in
+    let done = c.in_ok-z.ensures in
     let tc : c.type_for-c.result ≡ type_for (program_of c.args.walk.now).model c.args.op (type_of (expr_view c.args.to.now)) (type_of (expr_view c.args.from.now)) = c.type_for-c.ensures.value ∙ ap₂ (λ i j. type_for (program_of c.args.walk.now).model c.args.op i j) c.type_of-a.ensures c.type_of-b.ensures in
     let cost = update_cost (program_of c.args.walk.now) (expr_view c.args.to.now) c.in_ok-cell.cell c.type_for-c.result (type_for (program_of c.args.walk.now).model c.args.op (type_of (expr_view c.args.to.now)) (type_of (expr_view c.args.from.now))) tc c.in_ok-cell.ensures.meant q.target q.typed_target in
     (update_last (program_of c.args.walk.now) (mode_of c.args.walk.now) c.args.depth c.args.at (storing (program_of c.args.walk.now) c.type_for-c.result c.in_ok-cell.cell) c.args.e.now.spot c.args.e.now.ty c.args.op (expr_view c.args.to.now) (expr_view c.args.from.now) c.type_of-a.result c.type_of-b.result c.type_for-c.result c.type_of-a.ensures c.type_of-b.ensures c.type_for-c.ensures.value c.requires.ready c.in_ok-cell.ensures.targets look c.in_ok-y.ensures done cost).1
@@ -725,7 +732,7 @@ pub assignments::update-returns : goal.assignments::update-returns
 assignments::update-returns t c =
     let q = assign_parts (program_of c.args.walk.now) c.args.e.now.spot c.args.e.now.ty (Some c.args.op) (expr_view c.args.to.now) (expr_view c.args.from.now) c.requires.ready.types in
     let look = c.in_ok-x.ensures (mode_of c.args.walk.now) in
-    let done = c.in_ok-z.ensures (mode_of c.args.walk.now) c.requires.ready.duty in
+    let done = c.in_ok-z.ensures in
     let tc : c.type_for-c.result ≡ type_for (program_of c.args.walk.now).model c.args.op (type_of (expr_view c.args.to.now)) (type_of (expr_view c.args.from.now)) = c.type_for-c.ensures.value ∙ ap₂ (λ i j. type_for (program_of c.args.walk.now).model c.args.op i j) c.type_of-a.ensures c.type_of-b.ensures in
     let cost = update_cost (program_of c.args.walk.now) (expr_view c.args.to.now) c.in_ok-cell.cell c.type_for-c.result (type_for (program_of c.args.walk.now).model c.args.op (type_of (expr_view c.args.to.now)) (type_of (expr_view c.args.from.now))) tc c.in_ok-cell.ensures.meant q.target q.typed_target in
     let kept = kept_thrice (program_of c.args.walk.now) (mode_of c.args.walk.now) c.in_ok-cell.cell c.in_ok-cell.ensures.is look.follows c.in_ok-y.ensures.follows done.follows in
@@ -758,7 +765,7 @@ assignments::step-operate-requires-clause-room t c =
     step_sides (program_of c.args.walk.now) (mode_of c.args.walk.now) c.args.depth c.args.at c.args.e.now.spot c.args.e.now.ty c.args.op (expr_view c.args.to.now) c.type_of-a.result c.op_of_step-by.result c.type_of-a.ensures c.op_of_step-by.ensures c.requires.ready c.in_ok-cell.ensures.targets look (omega (arith, few))
 
 pub assignments::step-store_target-requires-clause-fits : goal.assignments::step-store_target-requires-clause-fits
-assignments::step-store_target-requires-clause-fits t c = (c.in_ok-z.ensures (mode_of c.args.walk.now) c.requires.ready.duty).follows.fits
+assignments::step-store_target-requires-clause-fits t c = c.in_ok-z.ensures.follows.fits
 
 pub assignments::step-store_target-requires-clause-typed : goal.assignments::step-store_target-requires-clause-typed
 assignments::step-store_target-requires-clause-typed t c =
@@ -768,7 +775,7 @@ assignments::step-store_target-requires-clause-typed t c =
 pub assignments::step-store_target-requires-clause-is : goal.assignments::step-store_target-requires-clause-is
 assignments::step-store_target-requires-clause-is t c =
     let look = c.in_ok-x.ensures (mode_of c.args.walk.now) in
-    let done = c.in_ok-z.ensures (mode_of c.args.walk.now) c.requires.ready.duty in
+    let done = c.in_ok-z.ensures in
     let kept = kept_twice (program_of c.args.walk.now) (mode_of c.args.walk.now) c.in_ok-cell.cell c.in_ok-cell.ensures.is look.follows done.follows in
     kept.0
 
@@ -776,7 +783,7 @@ pub assignments::step-store_target-requires-clause-value_in : goal.assignments::
 assignments::step-store_target-requires-clause-value_in t c =
     let q = step_parts (program_of c.args.walk.now) c.args.e.now.spot c.args.e.now.ty c.args.op (expr_view c.args.to.now) c.requires.ready.types in
     let look = c.in_ok-x.ensures (mode_of c.args.walk.now) in
-    let done = c.in_ok-z.ensures (mode_of c.args.walk.now) c.requires.ready.duty in
+    let done = c.in_ok-z.ensures in
     let tc : c.type_for-c.result ≡ type_for (program_of c.args.walk.now).model (op_of_step c.args.op) (type_of (expr_view c.args.to.now)) Int = c.type_for-c.ensures.value ∙ ap₂ (λ i j. type_for (program_of c.args.walk.now).model i j Int) c.op_of_step-by.ensures c.type_of-a.ensures in
     let cost = update_cost (program_of c.args.walk.now) (expr_view c.args.to.now) c.in_ok-cell.cell c.type_for-c.result (type_for (program_of c.args.walk.now).model (op_of_step c.args.op) (type_of (expr_view c.args.to.now)) Int) tc c.in_ok-cell.ensures.meant q.0 q.2 in
     (step_last (program_of c.args.walk.now) (mode_of c.args.walk.now) c.args.depth c.args.at (storing (program_of c.args.walk.now) c.type_for-c.result c.in_ok-cell.cell) c.args.e.now.spot c.args.e.now.ty c.args.op (expr_view c.args.to.now) c.type_of-a.result c.type_for-c.result c.op_of_step-by.result c.type_of-a.ensures c.op_of_step-by.ensures c.type_for-c.ensures.value c.requires.ready c.in_ok-cell.ensures.targets look done cost).0
@@ -785,7 +792,7 @@ pub assignments::step-store_target-requires-clause-room : goal.assignments::step
 assignments::step-store_target-requires-clause-room t c =
     let q = step_parts (program_of c.args.walk.now) c.args.e.now.spot c.args.e.now.ty c.args.op (expr_view c.args.to.now) c.requires.ready.types in
     let look = c.in_ok-x.ensures (mode_of c.args.walk.now) in
-    let done = c.in_ok-z.ensures (mode_of c.args.walk.now) c.requires.ready.duty in
+    let done = c.in_ok-z.ensures in
     let tc : c.type_for-c.result ≡ type_for (program_of c.args.walk.now).model (op_of_step c.args.op) (type_of (expr_view c.args.to.now)) Int = c.type_for-c.ensures.value ∙ ap₂ (λ i j. type_for (program_of c.args.walk.now).model i j Int) c.op_of_step-by.ensures c.type_of-a.ensures in
     let cost = update_cost (program_of c.args.walk.now) (expr_view c.args.to.now) c.in_ok-cell.cell c.type_for-c.result (type_for (program_of c.args.walk.now).model (op_of_step c.args.op) (type_of (expr_view c.args.to.now)) Int) tc c.in_ok-cell.ensures.meant q.0 q.2 in
     (step_last (program_of c.args.walk.now) (mode_of c.args.walk.now) c.args.depth c.args.at (storing (program_of c.args.walk.now) c.type_for-c.result c.in_ok-cell.cell) c.args.e.now.spot c.args.e.now.ty c.args.op (expr_view c.args.to.now) c.type_of-a.result c.type_for-c.result c.op_of_step-by.result c.type_of-a.ensures c.op_of_step-by.ensures c.type_for-c.ensures.value c.requires.ready c.in_ok-cell.ensures.targets look done cost).1
@@ -794,7 +801,7 @@ pub assignments::step-returns : goal.assignments::step-returns
 assignments::step-returns t c =
     let q = step_parts (program_of c.args.walk.now) c.args.e.now.spot c.args.e.now.ty c.args.op (expr_view c.args.to.now) c.requires.ready.types in
     let look = c.in_ok-x.ensures (mode_of c.args.walk.now) in
-    let done = c.in_ok-z.ensures (mode_of c.args.walk.now) c.requires.ready.duty in
+    let done = c.in_ok-z.ensures in
     let tc : c.type_for-c.result ≡ type_for (program_of c.args.walk.now).model (op_of_step c.args.op) (type_of (expr_view c.args.to.now)) Int = c.type_for-c.ensures.value ∙ ap₂ (λ i j. type_for (program_of c.args.walk.now).model i j Int) c.op_of_step-by.ensures c.type_of-a.ensures in
     let cost = update_cost (program_of c.args.walk.now) (expr_view c.args.to.now) c.in_ok-cell.cell c.type_for-c.result (type_for (program_of c.args.walk.now).model (op_of_step c.args.op) (type_of (expr_view c.args.to.now)) Int) tc c.in_ok-cell.ensures.meant q.0 q.2 in
     let kept = kept_twice (program_of c.args.walk.now) (mode_of c.args.walk.now) c.in_ok-cell.cell c.in_ok-cell.ensures.is look.follows done.follows in
