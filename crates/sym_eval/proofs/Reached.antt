@@ -153,8 +153,8 @@ module _ (p : Program) (W : Mode) (n m f : ℕ) (close : Spot) (needed : Bool) (
   same_bits = ap (λ k. bits_in p W.scale k f) e ∙ ap (λ o. function_of p (bits p W.scale m) o) q
 
   -- the body weighs what the function does, unfolded once more
-  pub found_weight : nodes_in p W.scale n 0 f ≡ function_body p (nodes p W.scale m) fn.result fn.body
-  found_weight = ap (λ k. nodes_in p W.scale k 0 f) e ∙ ap (λ o. function_of p (nodes p W.scale m) o) q
+  pub found_nodes : nodes_in p W.scale n (set_cost p (params_of (slice_get p.functions f)) xs) f ≡ set_cost p (params_of (slice_get p.functions f)) xs + function_body p (nodes p W.scale m) fn.result fn.body
+  found_nodes = let c = set_cost p (params_of (slice_get p.functions f)) xs in ap (λ k. nodes_in p W.scale k c f) e ∙ ap (λ o. c + function_of p (nodes p W.scale m) o) q
 
   pub found_ready : IsTrue (types_fit p) → RunReady p W m close needed fn s xs
   found_ready t = record {
@@ -206,6 +206,10 @@ module _ (p : Program) (W : Mode) (n : ℕ) (at : Around) (want : Use) (spot clo
 
     called_weight : weight_of_call p W n f xs ≡ call_weight + nodes_in p W.scale n (passed p (params_of (slice_get p.functions f)) es) f
     called_weight = ap (λ k. call_weight + nodes_in p W.scale n k f) same_passed
+
+    -- what the call costs after its arguments is less than the expression
+    pub call_within : nodes_in p W.scale n (set_cost p (params_of (slice_get p.functions f)) xs) f + 64 ≤ weight_of p W n (Expr spot ty (Call (Defined f) es close))
+    call_within = omega (arith, called_weight)
 
     pub call_values : {k r : Sym} {bits : List Bit} → Turned p (W.scale.enters close) 0 m k (λ v. telling W (Enter close)) → Called p W n close f needed ty xs k r bits → Values p W n at want (Expr spot ty (Call (Defined f) es close)) s r bits
     call_values {k} {r} {bits} ev y =

@@ -8,6 +8,7 @@ use Rattle.c_meaning.specs.Acts as acts
 use Rattle.c_meaning.specs.Exec.{exec, full_if, turn}
 use Rattle.c_meaning.specs.Havoc.{Stopped, Passes}
 use Rattle.c_meaning.specs.Meaning.{Loop, WhileLoop, DoLoop, ForLoop}
+use Rattle.c_meaning.proofs.TypeFacts.{neither}
 use Rattle.circuits.specs.declared.net.Bit.{Bit}
 use Rattle.circuits.specs.Net.{holds}
 use Rattle.seek_mode.specs.SeekingMode as seeking
@@ -26,7 +27,7 @@ use Rattle.sym_state.proofs.Nets.{longer_by}
 use Rattle.sym_values.specs.Storing.{Ends, end_of}
 use Rattle.way_match.specs.Points.{BoundSegment}
 use Rattle.sym_eval.specs.Doing.{calls}
-use Rattle.sym_eval.specs.Looping.{turn_glue, last_glue, test_part, rest_part, turns_parts, turned, TurnReady, TurnDoes, open_turns, weight_of_turns, bits_of_turns, TurnsReady, TurnsDo, last_tested, LastDoes, LoopReady, LoopDoes}
+use Rattle.sym_eval.specs.Looping.{turn_glue, last_glue, test_part, rest_part, turns_parts, turned, TurnReady, TurnDoes, open_turns, weight_of_turns, bits_of_turns, TurnsReady, TurnsDo, last_tested, LastDoes, weight_of_loop, LoopReady, LoopDoes}
 use Rattle.sym_eval.proofs.Turns.{control_then, going_then, became_as, kept_holds}
 
 -- what ends after a part ends it once
@@ -100,6 +101,10 @@ module _ (p : Program) (ss : List BoundSegment) (k n : ℕ) (gives : Option IntT
     room = omega (arith, h.room, (longer_by x.added).1, turns_cost k (test_part p (nodes p W.scale n) gives at l) (rest_part p (nodes p W.scale n) gives at l), turns_bits k (test_part p (bits p W.scale n) gives at l) (rest_part p (bits p W.scale n) gives at l));
   }
 
+  -- the turns cost no more than the loop
+  pub turns_within : (l : Option Loop) → turn_glue * k + weight_of_turns p W n gives k at l ≤ weight_of_loop p W n gives at l
+  turns_within l = omega (arith, turns_cost k (test_part p (nodes p W.scale n) gives at l) (rest_part p (nodes p W.scale n) gives at l))
+
   open_loop : (l : Loop) (r : ℕ) (s : JudgedState) → bind (open_turns p W n gives r at (Some l) s) (λ f t. Go (out_of_loop f) t) ≡ seeking.turns r (turn p (judged p W) (calls p W n) gives at l) s
   open_loop l zero s = after_turn (turn p (judged p W) (calls p W n) gives at l false s) (stop Passes) (stop Passes) (λ s. refl)
   open_loop l (suc r) s = after_turn (turn p (judged p W) (calls p W n) gives at l true s) (open_turns p W n gives r at (Some l)) (seeking.turns r (turn p (judged p W) (calls p W n) gives at l)) (open_loop l r)
@@ -112,3 +117,8 @@ module _ (p : Program) (ss : List BoundSegment) (k n : ℕ) (gives : Option IntT
       (λ v s. ap (cut Stopped JudgedState cells_judged with_cells_judged (length s.cells)) (open_loop l k s))
       (omega (arith, turns_cost k (test_part p (nodes p W.scale n) gives at (Some l)) (rest_part p (nodes p W.scale n) gives at (Some l))))
       (omega (arith, turns_bits k (test_part p (bits p W.scale n) gives at (Some l)) (rest_part p (bits p W.scale n) gives at (Some l))))
+
+  pub all_done : {a b c d : Sym} (l : Option Loop) (kept : Bit) (cells : ℕ) → LoopReady p W n gives at a l → kept ≡ a.broken → cells ≡ length a.cells.items → Became p 0 a b (λ v. fresh_broken) → TurnsDo p W n gives k at l b c
+      → Became p 1 c d (λ v. behind_loop (holds v c.net kept) cells) → LoopDoes p W n gives at l a d
+  all_done None kept cells h ek en x y z = neither h.is
+  all_done (Some l) kept cells h ek en x y z = all_do l kept cells h ek en x y z

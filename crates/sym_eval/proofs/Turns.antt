@@ -268,6 +268,10 @@ module _ (p : Program) (I : List Placed) (n : ℕ) (gives : Option IntType) wher
   abbrev W : Mode
   W = obliging p I
 
+  -- the one turn costs no more than the loop
+  pub turn_within : (at : Spot) (l : Option Loop) → weight_of_turn p W n gives at l ≤ weight_of_loop p W n gives at l
+  turn_within at l = omega arith
+
   pub head_room : {a b : Sym} (at : Spot) (l : Option Loop) → LoopReady p W n gives at a l → Became p 0 a b (λ v. fresh_broken) → length b.net + (2 * placed_weight p I true at + 5 * changed_bits p l) < 2 ^ 27
   head_room at l h x = omega (arith, h.room, (longer_by x.added).1)
 

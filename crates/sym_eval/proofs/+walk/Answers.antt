@@ -1100,12 +1100,12 @@ statements::give_back-returns-in_ok-go_back-in-None t c =
     (return_does (program_of c.args.walk.now) (mode_of c.args.walk.now) c.args.depth c.args.gives c.args.at
     (subst (λ e. FormReady (program_of c.args.walk.now) (mode_of c.args.walk.now) c.args.depth c.args.gives c.args.at c.args.sym.now (Return (expr_view_if e))) c.in-None.is c.requires.ready) c.in_ok-go_back-in-None.ensures)
 
-pub statements::statement-test_all-requires-clause-fits : goal.statements::statement-test_all-requires-clause-fits
-statements::statement-test_all-requires-clause-fits t c =
+pub statements::statement-begin-requires-clause-fits : goal.statements::statement-begin-requires-clause-fits
+statements::statement-begin-requires-clause-fits t c =
     c.requires.ready.fits
 
-pub statements::statement-test_all-requires-clause-room : goal.statements::statement-test_all-requires-clause-room
-statements::statement-test_all-requires-clause-room t c =
+pub statements::statement-begin-requires-clause-room : goal.statements::statement-begin-requires-clause-room
+statements::statement-begin-requires-clause-room t c =
     let p = program_of c.args.walk.now in
     let W = mode_of c.args.walk.now in
     test_room p W c.args.depth c.args.gives c.args.s.now.spot (form_view c.args.s.now.form) c.requires.ready
@@ -1114,13 +1114,13 @@ pub statements::statement-form-requires : goal.statements::statement-form-requir
 statements::statement-form-requires t c =
     let p = program_of c.args.walk.now in
     let W = mode_of c.args.walk.now in
-    (omega (arith, c.decreases), (c.requires.walk, form_ready p W c.args.depth c.args.gives c.args.s.now.spot (form_view c.args.s.now.form) c.requires.ready c.in_ok-test_all.ensures))
+    (omega (arith, c.decreases), (c.requires.walk, form_ready p W c.args.depth c.args.gives c.args.s.now.spot (form_view c.args.s.now.form) c.requires.ready c.in_ok-begin.ensures))
 
 pub statements::statement-returns : goal.statements::statement-returns
 statements::statement-returns t c =
     let p = program_of c.args.walk.now in
     let W = mode_of c.args.walk.now in
-    statement_does p W c.args.depth c.args.gives c.args.s.now.spot (form_view c.args.s.now.form) c.in_ok-test_all.ensures c.in_ok-form.ensures
+    statement_does p W c.args.depth c.args.gives c.args.s.now.spot (form_view c.args.s.now.form) c.in_ok-begin.ensures c.in_ok-form.ensures
 
 pub statements::form-returns-in-Empty : goal.statements::form-returns-in-Empty
 statements::form-returns-in-Empty t c =
@@ -1433,13 +1433,21 @@ pub control::decided-test-requires-clause-room : goal.control::decided-test-requ
 control::decided-test-requires-clause-room t c =
     omega (arith, (longer_by c.in_ok-x.ensures.follows.added).1, c.requires.ready.room)
 
+pub control::decided-tell_branch-requires-clause-room : goal.control::decided-tell_branch-requires-clause-room
+control::decided-tell_branch-requires-clause-room t c =
+    let p = program_of c.args.walk.now in
+    let W = mode_of c.args.walk.now in
+    let n = c.args.depth in
+    let e = expr_view c.args.e.now in
+    let cost = subst (λ k. conversion_cost p.model k BoolType ≤ width_of p.model (type_of e)) (sym c.type_of.ensures) (test_costs p.model (type_of e)) in
+    control_room p W n c.args.at e c.requires.ready c.in_ok-x.ensures c.in_ok-bit.ensures cost
+
 pub control::decided-returns : goal.control::decided-returns
 control::decided-returns t c =
     let p = program_of c.args.walk.now in
     let W = mode_of c.args.walk.now in
     let n = c.args.depth in
-    decides p W n c.args.at (expr_view c.args.e.now) c.type_of.result c.in_ok-bit.bit c.type_of.ensures c.requires.ready.value c.in_ok-x.ensures c.in_ok-bit.ensures
-    (untold c.args.walk.now c.test.new.sym (λ v. Branch c.args.at (Truth (holds v c.test.new.sym.net c.in_ok-bit.bit))) c.in_ok-bit.ensures.turned.fits)
+    decides p W n c.args.at (expr_view c.args.e.now) c.type_of.result c.in_ok-bit.bit c.type_of.ensures c.requires.ready.value c.in_ok-x.ensures c.in_ok-bit.ensures c.in_ok-tell_branch.ensures
 
 pub control::test_turn-decided-requires : goal.control::test_turn-decided-requires
 control::test_turn-decided-requires t c =
@@ -1469,7 +1477,7 @@ control::test_turn_if-test_turn-requires t c =
     let W = mode_of c.args.walk.now in
     let n = c.args.depth in
     let e = ap expr_view_if c.in-Some.is in
-    (omega (arith, c.decreases, ap (weight_of_test p W n) e), (c.requires.walk, some_test_ready p W n (subst (TestIfReady p W n c.args.sym.now) e c.requires.ready)))
+    (omega (arith, c.decreases, ap (weight_of_test p W n c.args.at) e), (c.requires.walk, some_test_ready p W n (subst (TestIfReady p W n c.args.at c.args.sym.now) e c.requires.ready)))
 
 pub control::test_turn_if-returns-in_ok-test_turn-in-Some : goal.control::test_turn_if-returns-in_ok-test_turn-in-Some
 control::test_turn_if-returns-in_ok-test_turn-in-Some t c =
@@ -1485,7 +1493,7 @@ control::test_turn_if-returns-in-None t c =
     let W = mode_of c.args.walk.now in
     let n = c.args.depth in
     let e = ap expr_view_if c.in-None.is in
-    subst (λ o. TestIfDoes p W n c.args.at o c.args.sym.now c.args.sym.now) (sym e) (no_test p W n c.args.at (subst (TestIfReady p W n c.args.sym.now) e c.requires.ready))
+    subst (λ o. TestIfDoes p W n c.args.at o c.args.sym.now c.args.sym.now) (sym e) (no_test p W n c.args.at (subst (TestIfReady p W n c.args.at c.args.sym.now) e c.requires.ready))
 
 pub control::step_on-full-requires : goal.control::step_on-full-requires
 control::step_on-full-requires t c =
@@ -1635,7 +1643,7 @@ loops::turn-while_turn-requires t c =
     let n = c.args.depth in
     let gives = c.args.gives in
     let e : loop_of (form_view c.args.f.now) ≡ Some (WhileLoop (expr_view c.in-While.test) (stmt_view c.deref.result.now)) = ap (λ f. loop_of (form_view f)) c.in-While.is ∙ ap (λ s. Some (WhileLoop (expr_view c.in-While.test) (stmt_view s))) (sym c.deref.ensures) in
-    (omega (arith, c.decreases, ap (weight_of_turn p W n gives) e), (c.requires.walk, subst (TurnReady p W n gives c.args.sym.now) e c.requires.ready))
+    (omega (arith, c.decreases, ap (weight_of_turn p W n gives c.args.at) e), (c.requires.walk, subst (TurnReady p W n gives c.args.at c.args.sym.now) e c.requires.ready))
 
 pub loops::turn-returns-in_ok-while_turn-in-While : goal.loops::turn-returns-in_ok-while_turn-in-While
 loops::turn-returns-in_ok-while_turn-in-While t c =
@@ -1653,7 +1661,7 @@ loops::turn-do_turn-requires t c =
     let n = c.args.depth in
     let gives = c.args.gives in
     let e : loop_of (form_view c.args.f.now) ≡ Some (DoLoop (stmt_view c.deref-in-Do.result.now) (expr_view c.in-Do.test)) = ap (λ f. loop_of (form_view f)) c.in-Do.is ∙ ap (λ s. Some (DoLoop (stmt_view s) (expr_view c.in-Do.test))) (sym c.deref-in-Do.ensures) in
-    (omega (arith, c.decreases, ap (weight_of_turn p W n gives) e), (c.requires.walk, subst (TurnReady p W n gives c.args.sym.now) e c.requires.ready))
+    (omega (arith, c.decreases, ap (weight_of_turn p W n gives c.args.at) e), (c.requires.walk, subst (TurnReady p W n gives c.args.at c.args.sym.now) e c.requires.ready))
 
 pub loops::turn-returns-in_ok-do_turn-in-Do : goal.loops::turn-returns-in_ok-do_turn-in-Do
 loops::turn-returns-in_ok-do_turn-in-Do t c =
@@ -1671,7 +1679,7 @@ loops::turn-for_turn-requires t c =
     let n = c.args.depth in
     let gives = c.args.gives in
     let e : loop_of (form_view c.args.f.now) ≡ Some (ForLoop (expr_view_if c.in-For.test) (expr_view_if c.in-For.step) (stmt_view c.deref-in-For.result.now)) = ap (λ f. loop_of (form_view f)) c.in-For.is ∙ ap (λ s. Some (ForLoop (expr_view_if c.in-For.test) (expr_view_if c.in-For.step) (stmt_view s))) (sym c.deref-in-For.ensures) in
-    (omega (arith, c.decreases, ap (weight_of_turn p W n gives) e), (c.requires.walk, subst (TurnReady p W n gives c.args.sym.now) e c.requires.ready))
+    (omega (arith, c.decreases, ap (weight_of_turn p W n gives c.args.at) e), (c.requires.walk, subst (TurnReady p W n gives c.args.at c.args.sym.now) e c.requires.ready))
 
 pub loops::turn-returns-in_ok-for_turn-in-For : goal.loops::turn-returns-in_ok-for_turn-in-For
 loops::turn-returns-in_ok-for_turn-in-For t c =
@@ -1689,92 +1697,284 @@ loops::turn-returns-in_default t c =
     let n = c.args.depth in
     let gives = c.args.gives in
     let none : loop_of (form_view c.args.f.now) ≡ None = no_loop c.args.f.now c.in_default.not-While c.in_default.not-Do c.in_default.not-For in
-    subst (λ l. TurnDoes p W n gives c.args.at l c.args.sym.now c.args.sym.now) (sym none) (no_turn p W n gives c.args.at (subst (TurnReady p W n gives c.args.sym.now) none c.requires.ready))
+    subst (λ l. TurnDoes p W n gives c.args.at l c.args.sym.now c.args.sym.now) (sym none) (no_turn p W n gives c.args.at (subst (TurnReady p W n gives c.args.at c.args.sym.now) none c.requires.ready))
 
-pub loops::loop_scope-head-requires-clause-fits : goal.loops::loop_scope-head-requires-clause-fits
-loops::loop_scope-head-requires-clause-fits t c =
+-- ---- a loop in the mode of obligations
+pub loops::one_turn-head-requires-clause-obliged : goal.loops::one_turn-head-requires-clause-obliged
+loops::one_turn-head-requires-clause-obliged t c =
+    subst (IsJudging c.args.walk.now) c.requires.is c.requires.walk
+
+pub loops::one_turn-head-requires-clause-fits : goal.loops::one_turn-head-requires-clause-fits
+loops::one_turn-head-requires-clause-fits t c =
     c.start_loop-kept.ensures.became.fits
 
-pub loops::loop_scope-head-requires-clause-room : goal.loops::loop_scope-head-requires-clause-room
-loops::loop_scope-head-requires-clause-room t c =
-    let p = program_of c.args.walk.now in
-    let W = mode_of c.args.walk.now in
+pub loops::one_turn-head-requires-clause-room : goal.loops::one_turn-head-requires-clause-room
+loops::one_turn-head-requires-clause-room t c =
+    let w = c.args.walk.now in
+    let p = program_of w in
     let n = c.args.depth in
     let gives = c.args.gives in
     let l = loop_of (form_view c.args.f.now) in
-    head_room p (invariants_of c.args.walk.now) n gives c.args.at l c.requires.ready c.start_loop-kept.ensures.became
+    let I = placed_view c.args.mode.invariants.now in
+    let ready = subst (λ m. LoopReady p (mode_by w m) n gives c.args.at c.args.sym.now l) c.requires.is c.requires.ready in
+    head_room p I n gives c.args.at l ready c.start_loop-kept.ensures.became
 
-pub loops::loop_scope-turn-requires : goal.loops::loop_scope-turn-requires
-loops::loop_scope-turn-requires t c =
-    let p = program_of c.args.walk.now in
-    let W = mode_of c.args.walk.now in
+pub loops::one_turn-turn-requires : goal.loops::one_turn-turn-requires
+loops::one_turn-turn-requires t c =
+    let w = c.args.walk.now in
+    let p = program_of w in
     let n = c.args.depth in
     let gives = c.args.gives in
     let l = loop_of (form_view c.args.f.now) in
-    (omega (arith, c.decreases), (c.requires.walk, turn_starts p (invariants_of c.args.walk.now) n gives c.args.at l c.requires.ready c.start_loop-kept.ensures.became c.in_ok-head.ensures))
+    let I = placed_view c.args.mode.invariants.now in
+    let ready = subst (λ m. LoopReady p (mode_by w m) n gives c.args.at c.args.sym.now l) c.requires.is c.requires.ready in
+    let within = subst (λ m. weight_of_turn p (mode_by w m) n gives c.args.at l ≤ weight_of_loop p (mode_by w m) n gives c.args.at l) (sym c.requires.is) (turn_within p I n gives c.args.at l) in (
+      omega (arith, c.decreases, within),
+      (c.requires.walk, subst (λ m. TurnReady p (mode_by w m) n gives c.args.at c.head.new.sym l) (sym c.requires.is) (turn_starts p I n gives c.args.at l ready c.start_loop-kept.ensures.became c.in_ok-head.ensures)),
+    )
 
-pub loops::loop_scope-test_all-requires-clause-fits : goal.loops::loop_scope-test_all-requires-clause-fits
-loops::loop_scope-test_all-requires-clause-fits t c =
+pub loops::one_turn-test_all-requires-clause-obliged : goal.loops::one_turn-test_all-requires-clause-obliged
+loops::one_turn-test_all-requires-clause-obliged t c =
+    subst (IsJudging c.args.walk.now) c.requires.is c.requires.walk
+
+pub loops::one_turn-test_all-requires-clause-fits : goal.loops::one_turn-test_all-requires-clause-fits
+loops::one_turn-test_all-requires-clause-fits t c =
     c.in_ok-turn.ensures.fits
 
-pub loops::loop_scope-test_all-requires-clause-room : goal.loops::loop_scope-test_all-requires-clause-room
-loops::loop_scope-test_all-requires-clause-room t c =
-    let p = program_of c.args.walk.now in
-    let W = mode_of c.args.walk.now in
+pub loops::one_turn-test_all-requires-clause-room : goal.loops::one_turn-test_all-requires-clause-room
+loops::one_turn-test_all-requires-clause-room t c =
+    let w = c.args.walk.now in
+    let p = program_of w in
     let n = c.args.depth in
     let gives = c.args.gives in
     let l = loop_of (form_view c.args.f.now) in
-    omega (arith, head_room_again p (invariants_of c.args.walk.now) n gives c.args.at l c.requires.ready c.start_loop-kept.ensures.became c.in_ok-head.ensures c.in_ok-turn.ensures)
+    let I = placed_view c.args.mode.invariants.now in
+    let ready = subst (λ m. LoopReady p (mode_by w m) n gives c.args.at c.args.sym.now l) c.requires.is c.requires.ready in
+    let done = subst (λ m. TurnDoes p (mode_by w m) n gives c.args.at l c.head.new.sym c.turn.new.sym) c.requires.is c.in_ok-turn.ensures in
+    omega (arith, head_room_again p I n gives c.args.at l ready c.start_loop-kept.ensures.became c.in_ok-head.ensures done)
 
-pub loops::loop_scope-end-requires-clause-fits : goal.loops::loop_scope-end-requires-clause-fits
-loops::loop_scope-end-requires-clause-fits t c =
+pub loops::one_turn-end-requires-clause-fits : goal.loops::one_turn-end-requires-clause-fits
+loops::one_turn-end-requires-clause-fits t c =
     c.in_ok-test_all.ensures.fits
 
-pub loops::loop_scope-end-requires-clause-room : goal.loops::loop_scope-end-requires-clause-room
-loops::loop_scope-end-requires-clause-room t c =
-    let p = program_of c.args.walk.now in
-    let W = mode_of c.args.walk.now in
+pub loops::one_turn-end-requires-clause-room : goal.loops::one_turn-end-requires-clause-room
+loops::one_turn-end-requires-clause-room t c =
+    let w = c.args.walk.now in
+    let p = program_of w in
     let n = c.args.depth in
     let gives = c.args.gives in
     let l = loop_of (form_view c.args.f.now) in
-    omega (arith, head_room_again p (invariants_of c.args.walk.now) n gives c.args.at l c.requires.ready c.start_loop-kept.ensures.became c.in_ok-head.ensures c.in_ok-turn.ensures, (longer_by c.in_ok-test_all.ensures.added).1)
+    let I = placed_view c.args.mode.invariants.now in
+    let ready = subst (λ m. LoopReady p (mode_by w m) n gives c.args.at c.args.sym.now l) c.requires.is c.requires.ready in
+    let done = subst (λ m. TurnDoes p (mode_by w m) n gives c.args.at l c.head.new.sym c.turn.new.sym) c.requires.is c.in_ok-turn.ensures in
+    omega (arith, head_room_again p I n gives c.args.at l ready c.start_loop-kept.ensures.became c.in_ok-head.ensures done, (longer_by c.in_ok-test_all.ensures.added).1)
 
-pub loops::loop_scope-end_loop-requires-clause-fits : goal.loops::loop_scope-end_loop-requires-clause-fits
-loops::loop_scope-end_loop-requires-clause-fits t c =
-    let p = program_of c.args.walk.now in
-    let W = mode_of c.args.walk.now in
-    let n = c.args.depth in
-    (c.in_ok-end.ensures W).fits
+pub loops::one_turn-end_loop-requires-clause-fits : goal.loops::one_turn-end_loop-requires-clause-fits
+loops::one_turn-end_loop-requires-clause-fits t c =
+    (c.in_ok-end.ensures (mode_of c.args.walk.now)).fits
 
-pub loops::loop_scope-end_loop-requires-clause-kept_in : goal.loops::loop_scope-end_loop-requires-clause-kept_in
-loops::loop_scope-end_loop-requires-clause-kept_in t c =
-    let p = program_of c.args.walk.now in
-    let W = mode_of c.args.walk.now in
-    let n = c.args.depth in
-    let gives = c.args.gives in
-    let l = loop_of (form_view c.args.f.now) in
-    outer_kept p (invariants_of c.args.walk.now) n gives c.args.at l c.requires.ready c.start_loop-kept.ensures.became c.in_ok-head.ensures c.in_ok-turn.ensures c.in_ok-test_all.ensures (c.in_ok-end.ensures W) c.start_loop-kept.result c.start_loop-kept.ensures.kept
-
-pub loops::loop_scope-end_loop-requires-clause-room : goal.loops::loop_scope-end_loop-requires-clause-room
-loops::loop_scope-end_loop-requires-clause-room t c =
-    let p = program_of c.args.walk.now in
-    let W = mode_of c.args.walk.now in
+pub loops::one_turn-end_loop-requires-clause-kept_in : goal.loops::one_turn-end_loop-requires-clause-kept_in
+loops::one_turn-end_loop-requires-clause-kept_in t c =
+    let w = c.args.walk.now in
+    let p = program_of w in
     let n = c.args.depth in
     let gives = c.args.gives in
     let l = loop_of (form_view c.args.f.now) in
-    omega (arith, head_room_again p (invariants_of c.args.walk.now) n gives c.args.at l c.requires.ready c.start_loop-kept.ensures.became c.in_ok-head.ensures c.in_ok-turn.ensures, (longer_by c.in_ok-test_all.ensures.added).1, (longer_by (c.in_ok-end.ensures W).added).1)
+    let I = placed_view c.args.mode.invariants.now in
+    let ready = subst (λ m. LoopReady p (mode_by w m) n gives c.args.at c.args.sym.now l) c.requires.is c.requires.ready in
+    let done = subst (λ m. TurnDoes p (mode_by w m) n gives c.args.at l c.head.new.sym c.turn.new.sym) c.requires.is c.in_ok-turn.ensures in
+    let ended = c.in_ok-end.ensures (mode_by w (Obliges c.args.mode)) in
+    outer_kept p I n gives c.args.at l ready c.start_loop-kept.ensures.became c.in_ok-head.ensures done c.in_ok-test_all.ensures ended c.start_loop-kept.result c.start_loop-kept.ensures.kept
 
-pub loops::loop_scope-returns : goal.loops::loop_scope-returns
-loops::loop_scope-returns t c =
-    let p = program_of c.args.walk.now in
-    let W = mode_of c.args.walk.now in
+pub loops::one_turn-end_loop-requires-clause-room : goal.loops::one_turn-end_loop-requires-clause-room
+loops::one_turn-end_loop-requires-clause-room t c =
+    let w = c.args.walk.now in
+    let p = program_of w in
     let n = c.args.depth in
     let gives = c.args.gives in
     let l = loop_of (form_view c.args.f.now) in
+    let I = placed_view c.args.mode.invariants.now in
+    let ready = subst (λ m. LoopReady p (mode_by w m) n gives c.args.at c.args.sym.now l) c.requires.is c.requires.ready in
+    let done = subst (λ m. TurnDoes p (mode_by w m) n gives c.args.at l c.head.new.sym c.turn.new.sym) c.requires.is c.in_ok-turn.ensures in
+    let ended = c.in_ok-end.ensures (mode_by w (Obliges c.args.mode)) in
+    omega (arith, head_room_again p I n gives c.args.at l ready c.start_loop-kept.ensures.became c.in_ok-head.ensures done, (longer_by c.in_ok-test_all.ensures.added).1, (longer_by ended.added).1)
+
+pub loops::one_turn-returns : goal.loops::one_turn-returns
+loops::one_turn-returns t c =
+    let w = c.args.walk.now in
+    let p = program_of w in
+    let n = c.args.depth in
+    let gives = c.args.gives in
+    let l = loop_of (form_view c.args.f.now) in
+    let I = placed_view c.args.mode.invariants.now in
+    let ready = subst (λ m. LoopReady p (mode_by w m) n gives c.args.at c.args.sym.now l) c.requires.is c.requires.ready in
+    let done = subst (λ m. TurnDoes p (mode_by w m) n gives c.args.at l c.head.new.sym c.turn.new.sym) c.requires.is c.in_ok-turn.ensures in
+    let ended = c.in_ok-end.ensures (mode_by w (Obliges c.args.mode)) in
     let count : vec_len c.args.sym.now.cells ≡ length c.args.sym.now.cells.items = search rules in
-    let w = loop_ends p (invariants_of c.args.walk.now) n gives c.args.at l c.requires.ready c.start_loop-kept.ensures.became c.in_ok-head.ensures c.in_ok-turn.ensures c.in_ok-test_all.ensures (c.in_ok-end.ensures W) c.start_loop-kept.result c.start_loop-kept.ensures.kept
+    let last = loop_ends p I n gives c.args.at l ready c.start_loop-kept.ensures.became c.in_ok-head.ensures done c.in_ok-test_all.ensures ended c.start_loop-kept.result c.start_loop-kept.ensures.kept
     c.len-cells.result (c.len-cells.ensures ∙ count) c.in_ok-end_loop.ensures in
-    loop_does p (invariants_of c.args.walk.now) n gives c.args.at l c.requires.ready c.start_loop-kept.ensures.became c.in_ok-head.ensures c.in_ok-turn.ensures c.in_ok-test_all.ensures (c.in_ok-end.ensures W) w
+    subst (λ m. LoopDoes p (mode_by w m) n gives c.args.at l c.args.sym.now c.end_loop.new.sym) (sym c.requires.is) (loop_does p I n gives c.args.at l ready c.start_loop-kept.ensures.became c.in_ok-head.ensures done c.in_ok-test_all.ensures ended last)
+
+-- ---- a loop in the mode of runs that seek
+-- open: the arms of `last_test`, by the equations of `turn` above, and the names of goals past an early return
+pub loops::last_test-test_turn-requires : goal.loops::last_test-test_turn-requires
+loops::last_test-test_turn-requires t c =
+    ?
+
+pub loops::last_test-returns-in_ok-test_turn-in-While : goal.loops::last_test-returns-in_ok-test_turn-in-While
+loops::last_test-returns-in_ok-test_turn-in-While t c =
+    ?
+
+pub loops::last_test-test_turn_if-requires : goal.loops::last_test-test_turn_if-requires
+loops::last_test-test_turn_if-requires t c =
+    ?
+
+pub loops::last_test-returns-in_ok-test_turn_if-in-For : goal.loops::last_test-returns-in_ok-test_turn_if-in-For
+loops::last_test-returns-in_ok-test_turn_if-in-For t c =
+    ?
+
+pub loops::last_test-returns-in_default : goal.loops::last_test-returns-in_default
+loops::last_test-returns-in_default t c =
+    ?
+
+pub loops::turns-last_test-requires : goal.loops::turns-last_test-requires
+loops::turns-last_test-requires t c =
+    let w = c.args.walk.now in
+    let p = program_of w in
+    let W = mode_of w in
+    let n = c.args.depth in
+    let gives = c.args.gives in
+    let l = loop_of (form_view c.args.f.now) in
+    let none : c.args.left ≡ 0 = search rules in
+    (omega (arith, c.decreases, ap (λ r. weight_of_turns p W n gives r c.args.at l) none), (c.requires.walk, subst (λ r. TurnsReady p W n gives r c.args.at c.args.sym.now l) none c.requires.ready))
+
+pub loops::turns-end-requires-clause-fits : goal.loops::turns-end-requires-clause-fits
+loops::turns-end-requires-clause-fits t c =
+    c.in_ok-last_test.ensures.fits
+
+pub loops::turns-end-requires-clause-room : goal.loops::turns-end-requires-clause-room
+loops::turns-end-requires-clause-room t c =
+    let w = c.args.walk.now in
+    let p = program_of w in
+    let W = mode_of w in
+    let n = c.args.depth in
+    let gives = c.args.gives in
+    let l = loop_of (form_view c.args.f.now) in
+    let none : c.args.left ≡ 0 = search rules in
+    last_room p W n gives c.args.at (subst (λ r. TurnsReady p W n gives r c.args.at c.args.sym.now l) none c.requires.ready) c.in_ok-last_test.ensures
+
+pub loops::turns-returns-then-not-left : goal.loops::turns-returns-then-not-left
+loops::turns-returns-then-not-left t c =
+    let w = c.args.walk.now in
+    let p = program_of w in
+    let W = mode_of w in
+    let n = c.args.depth in
+    let gives = c.args.gives in
+    let l = loop_of (form_view c.args.f.now) in
+    let none : c.args.left ≡ 0 = search rules in
+    subst (λ r. TurnsDo p W n gives r c.args.at l c.args.sym.now c.end.new.sym) (sym none)
+    (turns_end p W n gives c.args.at l (subst (λ r. TurnsReady p W n gives r c.args.at c.args.sym.now l) none c.requires.ready) c.in_ok-last_test.ensures (c.in_ok-end.ensures W))
+
+pub loops::turns-turn-requires : goal.loops::turns-turn-requires
+loops::turns-turn-requires t c =
+    let w = c.args.walk.now in
+    let p = program_of w in
+    let W = mode_of w in
+    let n = c.args.depth in
+    let gives = c.args.gives in
+    let l = loop_of (form_view c.args.f.now) in
+    let more : c.args.left ≡ suc (c.args.left - 1) = omega (arith, c.if-left.false) in
+    (omega (arith, c.decreases, ap (λ r. weight_of_turns p W n gives r c.args.at l) more), (c.requires.walk, turn_first p W n gives c.args.at (subst (λ r. TurnsReady p W n gives r c.args.at c.args.sym.now l) more c.requires.ready)))
+
+pub loops::turns-turns-requires : goal.loops::turns-turns-requires
+loops::turns-turns-requires t c =
+    let w = c.args.walk.now in
+    let p = program_of w in
+    let W = mode_of w in
+    let n = c.args.depth in
+    let gives = c.args.gives in
+    let l = loop_of (form_view c.args.f.now) in
+    let more : c.args.left ≡ suc (c.args.left - 1) = omega (arith, c.if-left.false) in
+    (omega (arith, c.decreases, more, ap (λ r. weight_of_turns p W n gives r c.args.at l) more), (c.requires.walk, turns_next p W n gives c.args.at (subst (λ r. TurnsReady p W n gives r c.args.at c.args.sym.now l) more c.requires.ready) c.in_ok-turn.ensures))
+
+pub loops::turns-returns : goal.loops::turns-returns
+loops::turns-returns t c =
+    let w = c.args.walk.now in
+    let p = program_of w in
+    let W = mode_of w in
+    let n = c.args.depth in
+    let gives = c.args.gives in
+    let l = loop_of (form_view c.args.f.now) in
+    let more : c.args.left ≡ suc (c.args.left - 1) = omega (arith, c.if-left.false) in
+    subst (λ r. TurnsDo p W n gives r c.args.at l c.args.sym.now c.turns.new.sym) (sym more) (turns_more p W n gives c.args.at (c.args.left - 1) l c.in_ok-turn.ensures c.in_ok-turns.ensures)
+
+pub loops::all_turns-turns-requires : goal.loops::all_turns-turns-requires
+loops::all_turns-turns-requires t c =
+    let w = c.args.walk.now in
+    let p = program_of w in
+    let n = c.args.depth in
+    let gives = c.args.gives in
+    let l = loop_of (form_view c.args.f.now) in
+    let ss = segments_of c.args.mode in
+    let k = c.args.mode.turns in
+    let ready = subst (λ m. LoopReady p (mode_by w m) n gives c.args.at c.args.sym.now l) c.requires.is c.requires.ready in
+    let within = subst (λ m. turn_glue * k + weight_of_turns p (mode_by w m) n gives k c.args.at l ≤ weight_of_loop p (mode_by w m) n gives c.args.at l) (sym c.requires.is) (turns_within p ss k n gives c.args.at l) in (
+      omega (arith, c.decreases, within),
+      (c.requires.walk, subst (λ m. TurnsReady p (mode_by w m) n gives k c.args.at c.start_loop.new.sym l) (sym c.requires.is) (all_ready p ss k n gives c.args.at l ready c.start_loop-kept.ensures.became)),
+    )
+
+pub loops::all_turns-end_loop-requires-clause-fits : goal.loops::all_turns-end_loop-requires-clause-fits
+loops::all_turns-end_loop-requires-clause-fits t c =
+    c.in_ok-turns.ensures.fits
+
+pub loops::all_turns-end_loop-requires-clause-kept_in : goal.loops::all_turns-end_loop-requires-clause-kept_in
+loops::all_turns-end_loop-requires-clause-kept_in t c =
+    let w = c.args.walk.now in
+    let p = program_of w in
+    let n = c.args.depth in
+    let gives = c.args.gives in
+    let l = loop_of (form_view c.args.f.now) in
+    let ss = segments_of c.args.mode in
+    let k = c.args.mode.turns in
+    let ready = subst (λ m. LoopReady p (mode_by w m) n gives c.args.at c.args.sym.now l) c.requires.is c.requires.ready in
+    stays_in p (mode_of w) n gives c.start_loop-kept.result c.args.sym.now.broken c.start_loop-kept.ensures.kept ready.fits.broken c.start_loop-kept.ensures.became c.in_ok-turns.ensures
+
+pub loops::all_turns-end_loop-requires-clause-room : goal.loops::all_turns-end_loop-requires-clause-room
+loops::all_turns-end_loop-requires-clause-room t c =
+    let w = c.args.walk.now in
+    let p = program_of w in
+    let n = c.args.depth in
+    let gives = c.args.gives in
+    let l = loop_of (form_view c.args.f.now) in
+    let ss = segments_of c.args.mode in
+    let k = c.args.mode.turns in
+    let ready = subst (λ m. LoopReady p (mode_by w m) n gives c.args.at c.args.sym.now l) c.requires.is c.requires.ready in
+    ?
+
+pub loops::all_turns-returns : goal.loops::all_turns-returns
+loops::all_turns-returns t c =
+    let w = c.args.walk.now in
+    let p = program_of w in
+    let n = c.args.depth in
+    let gives = c.args.gives in
+    let l = loop_of (form_view c.args.f.now) in
+    let ss = segments_of c.args.mode in
+    let k = c.args.mode.turns in
+    let ready = subst (λ m. LoopReady p (mode_by w m) n gives c.args.at c.args.sym.now l) c.requires.is c.requires.ready in
+    let count : vec_len c.args.sym.now.cells ≡ length c.args.sym.now.cells.items = search rules in
+    let done = subst (λ m. TurnsDo p (mode_by w m) n gives k c.args.at l c.start_loop.new.sym c.turns.new.sym) c.requires.is c.in_ok-turns.ensures in
+    subst (λ m. LoopDoes p (mode_by w m) n gives c.args.at l c.args.sym.now c.end_loop.new.sym) (sym c.requires.is)
+    (all_done p ss k n gives c.args.at l c.start_loop-kept.result c.len-cells.result ready c.start_loop-kept.ensures.kept (c.len-cells.ensures ∙ count) c.start_loop-kept.ensures.became done c.in_ok-end_loop.ensures)
+
+-- ---- a loop, as its mode does it
+pub loops::loop_scope-one_turn-requires-in-Obliges : goal.loops::loop_scope-one_turn-requires-in-Obliges
+loops::loop_scope-one_turn-requires-in-Obliges t c =
+    (omega (arith, c.decreases), (c.requires.walk, c.in-Obliges.is, c.requires.ready))
+
+pub loops::loop_scope-all_turns-requires-in-Seeks : goal.loops::loop_scope-all_turns-requires-in-Seeks
+loops::loop_scope-all_turns-requires-in-Seeks t c =
+    (omega (arith, c.decreases), (c.requires.walk, c.in-Seeks.is, c.requires.ready))
+
 
 pub loops::for_scope-first-requires : goal.loops::for_scope-first-requires
 loops::for_scope-first-requires t c =
@@ -1890,14 +2090,14 @@ pub calls::run_function-set_parameters-requires-clause-arguments_in : goal.calls
 calls::run_function-set_parameters-requires-clause-arguments_in t c =
     let w = c.args.walk.now in
     let f = c.args.function.now in
-    entered_arguments (program_of w) (mode_of w) c.args.depth c.args.needed f.result f.params f.body.spot (form_view f.body.form) c.args.arguments.now c.type_or_int.result c.requires.ready c.in_ok-caller.ensures.enters
+    entered_arguments (program_of w) (mode_of w) c.args.depth c.args.close c.args.needed f.result f.params f.body.spot (form_view f.body.form) c.args.arguments.now c.type_or_int-ty.result c.requires.ready c.in_ok-caller.ensures.enters
 
 pub calls::run_function-set_parameters-requires-clause-room : goal.calls::run_function-set_parameters-requires-clause-room
 calls::run_function-set_parameters-requires-clause-room t c =
     let w = c.args.walk.now in
     let f = c.args.function.now in
     subst (λ z. length c.enter.new.sym.net + set_cost (program_of w) z c.args.arguments.now < 2 ^ 28) (sym c.as_slice.ensures)
-    (entered_room (program_of w) (mode_of w) c.args.depth c.args.needed f.result f.params f.body.spot (form_view f.body.form) c.args.arguments.now c.type_or_int.result c.requires.ready c.in_ok-caller.ensures.enters)
+    (entered_room (program_of w) (mode_of w) c.args.depth c.args.close c.args.needed f.result f.params f.body.spot (form_view f.body.form) c.args.arguments.now c.type_or_int-ty.result c.requires.ready c.in_ok-caller.ensures.enters)
 
 pub calls::run_function-form-requires : goal.calls::run_function-form-requires
 calls::run_function-form-requires t c =
@@ -1906,7 +2106,7 @@ calls::run_function-form-requires t c =
     let y : Sets (program_of w) f.params c.args.arguments.now c.enter.new.sym c.set_parameters.new.sym =
     subst (λ z. Sets (program_of w) z c.args.arguments.now c.enter.new.sym c.set_parameters.new.sym) c.as_slice.ensures c.in_ok-set_parameters.ensures in (
       omega (arith, c.decreases),
-      (c.requires.walk, body_ready (program_of w) (mode_of w) c.args.depth c.args.needed f.result f.params f.body.spot (form_view f.body.form) c.args.arguments.now c.type_or_int.result c.requires.ready c.in_ok-caller.ensures.enters c.type_or_int.ensures y),
+      (c.requires.walk, body_ready (program_of w) (mode_of w) c.args.depth c.args.close c.args.needed f.result f.params f.body.spot (form_view f.body.form) c.args.arguments.now c.type_or_int-ty.result c.requires.ready c.in_ok-caller.ensures.enters c.type_or_int-ty.ensures y),
     )
 
 pub calls::run_function-come_back-requires-clause-caller_in : goal.calls::run_function-come_back-requires-clause-caller_in
@@ -1915,7 +2115,7 @@ calls::run_function-come_back-requires-clause-caller_in t c =
     let f = c.args.function.now in
     let y : Sets (program_of w) f.params c.args.arguments.now c.enter.new.sym c.set_parameters.new.sym =
     subst (λ z. Sets (program_of w) z c.args.arguments.now c.enter.new.sym c.set_parameters.new.sym) c.as_slice.ensures c.in_ok-set_parameters.ensures in
-    back_around (program_of w) (mode_of w) c.args.depth c.args.needed f.result f.params f.body.spot (form_view f.body.form) c.args.arguments.now c.type_or_int.result c.requires.ready c.in_ok-caller.ensures.enters c.type_or_int.ensures y c.in_ok-form.ensures c.in_ok-caller.caller c.in_ok-caller.ensures.around
+    back_around (program_of w) (mode_of w) c.args.depth c.args.close c.args.needed f.result f.params f.body.spot (form_view f.body.form) c.args.arguments.now c.type_or_int-ty.result c.requires.ready c.in_ok-caller.ensures.enters c.type_or_int-ty.ensures y c.in_ok-form.ensures c.in_ok-caller.caller c.in_ok-caller.ensures.around
 
 pub calls::run_function-come_back-requires-clause-room : goal.calls::run_function-come_back-requires-clause-room
 calls::run_function-come_back-requires-clause-room t c =
@@ -1923,13 +2123,43 @@ calls::run_function-come_back-requires-clause-room t c =
     let f = c.args.function.now in
     let y : Sets (program_of w) f.params c.args.arguments.now c.enter.new.sym c.set_parameters.new.sym =
     subst (λ z. Sets (program_of w) z c.args.arguments.now c.enter.new.sym c.set_parameters.new.sym) c.as_slice.ensures c.in_ok-set_parameters.ensures in
-    back_room (program_of w) (mode_of w) c.args.depth c.args.needed f.result f.params f.body.spot (form_view f.body.form) c.args.arguments.now c.type_or_int.result c.requires.ready c.in_ok-caller.ensures.enters c.type_or_int.ensures y c.in_ok-form.ensures
+    back_room (program_of w) (mode_of w) c.args.depth c.args.close c.args.needed f.result f.params f.body.spot (form_view f.body.form) c.args.arguments.now c.type_or_int-ty.result c.requires.ready c.in_ok-caller.ensures.enters c.type_or_int-ty.ensures y c.in_ok-form.ensures
+
+pub calls::run_function-tell_return-requires-clause-fits : goal.calls::run_function-tell_return-requires-clause-fits
+calls::run_function-tell_return-requires-clause-fits t c =
+    c.in_ok-back.ensures.fits
+
+pub calls::run_function-tell_return-requires-clause-bits_in : goal.calls::run_function-tell_return-requires-clause-bits_in
+calls::run_function-tell_return-requires-clause-bits_in t c =
+    let w = c.args.walk.now in
+    let f = c.args.function.now in
+    let y : Sets (program_of w) f.params c.args.arguments.now c.enter.new.sym c.set_parameters.new.sym =
+    subst (λ z. Sets (program_of w) z c.args.arguments.now c.enter.new.sym c.set_parameters.new.sym) c.as_slice.ensures c.in_ok-set_parameters.ensures in
+    told_in (program_of w) (mode_of w) c.args.depth c.args.close c.args.needed f.result f.params f.body.spot (form_view f.body.form) c.args.arguments.now c.type_or_int-ty.result c.requires.ready c.in_ok-caller.ensures.enters c.type_or_int-ty.ensures y c.in_ok-form.ensures c.in_ok-back.ensures
+
+pub calls::run_function-tell_return-requires-clause-gave_in : goal.calls::run_function-tell_return-requires-clause-gave_in
+calls::run_function-tell_return-requires-clause-gave_in t c =
+    c.in_ok-back.ensures.gave_in
+
+pub calls::run_function-tell_return-requires-clause-room : goal.calls::run_function-tell_return-requires-clause-room
+calls::run_function-tell_return-requires-clause-room t c =
+    let w = c.args.walk.now in
+    let f = c.args.function.now in
+    let y : Sets (program_of w) f.params c.args.arguments.now c.enter.new.sym c.set_parameters.new.sym =
+    subst (λ z. Sets (program_of w) z c.args.arguments.now c.enter.new.sym c.set_parameters.new.sym) c.as_slice.ensures c.in_ok-set_parameters.ensures in
+    told_room (program_of w) (mode_of w) c.args.depth c.args.close c.args.needed f.result f.params f.body.spot (form_view f.body.form) c.args.arguments.now c.type_or_int-ty.result c.requires.ready c.in_ok-caller.ensures.enters c.type_or_int-ty.ensures y c.in_ok-form.ensures c.in_ok-back.ensures
 
 pub calls::run_function-need-requires-clause-fits : goal.calls::run_function-need-requires-clause-fits
-calls::run_function-need-requires-clause-fits t c = c.in_ok-back.ensures.fits
+calls::run_function-need-requires-clause-fits t c =
+    c.in_ok-tell_return.ensures.fits
 
 pub calls::run_function-need-requires-clause-gave_in : goal.calls::run_function-need-requires-clause-gave_in
-calls::run_function-need-requires-clause-gave_in t c = c.in_ok-back.ensures.gave_in
+calls::run_function-need-requires-clause-gave_in t c =
+    let w = c.args.walk.now in
+    let f = c.args.function.now in
+    let y : Sets (program_of w) f.params c.args.arguments.now c.enter.new.sym c.set_parameters.new.sym =
+    subst (λ z. Sets (program_of w) z c.args.arguments.now c.enter.new.sym c.set_parameters.new.sym) c.as_slice.ensures c.in_ok-set_parameters.ensures in
+    need_in (program_of w) (mode_of w) c.args.depth c.args.close c.args.needed f.result f.params f.body.spot (form_view f.body.form) c.args.arguments.now c.type_or_int-ty.result c.requires.ready c.in_ok-caller.ensures.enters c.type_or_int-ty.ensures y c.in_ok-form.ensures c.in_ok-caller.caller c.len-cells.result c.in_ok-back.ensures c.in_ok-tell_return.ensures
 
 pub calls::run_function-need-requires-clause-room : goal.calls::run_function-need-requires-clause-room
 calls::run_function-need-requires-clause-room t c =
@@ -1937,7 +2167,7 @@ calls::run_function-need-requires-clause-room t c =
     let f = c.args.function.now in
     let y : Sets (program_of w) f.params c.args.arguments.now c.enter.new.sym c.set_parameters.new.sym =
     subst (λ z. Sets (program_of w) z c.args.arguments.now c.enter.new.sym c.set_parameters.new.sym) c.as_slice.ensures c.in_ok-set_parameters.ensures in
-    need_room (program_of w) (mode_of w) c.args.depth c.args.needed f.result f.params f.body.spot (form_view f.body.form) c.args.arguments.now c.type_or_int.result c.requires.ready c.in_ok-caller.ensures.enters c.type_or_int.ensures y c.in_ok-form.ensures c.in_ok-back.ensures
+    need_room (program_of w) (mode_of w) c.args.depth c.args.close c.args.needed f.result f.params f.body.spot (form_view f.body.form) c.args.arguments.now c.type_or_int-ty.result c.requires.ready c.in_ok-caller.ensures.enters c.type_or_int-ty.ensures y c.in_ok-form.ensures c.in_ok-caller.caller c.len-cells.result c.in_ok-back.ensures c.in_ok-tell_return.ensures
 
 pub calls::run_function-returns : goal.calls::run_function-returns
 calls::run_function-returns t c =
@@ -1945,16 +2175,16 @@ calls::run_function-returns t c =
     let f = c.args.function.now in
     let y : Sets (program_of w) f.params c.args.arguments.now c.enter.new.sym c.set_parameters.new.sym =
     subst (λ z. Sets (program_of w) z c.args.arguments.now c.enter.new.sym c.set_parameters.new.sym) c.as_slice.ensures c.in_ok-set_parameters.ensures in
-    function_run (program_of w) (mode_of w) c.args.depth c.args.needed f.result f.params f.body.spot (form_view f.body.form) c.args.arguments.now c.type_or_int.result c.requires.ready c.in_ok-caller.ensures.enters c.type_or_int.ensures y c.in_ok-form.ensures c.in_ok-caller.caller c.len-cells.result c.in_ok-caller.ensures.around (omega (arith, c.len-cells.ensures, c.args.sym.now.cells.ok.0)) c.in_ok-back.ensures
-    (λ close o. untold w c.come_back.new.sym (λ v. Returned close (o v)) c.in_ok-back.ensures.fits) c.in_ok-need.ensures
+    function_run (program_of w) (mode_of w) c.args.depth c.args.close c.args.needed f.result f.params f.body.spot (form_view f.body.form) c.args.arguments.now c.type_or_int-ty.result c.requires.ready c.in_ok-caller.ensures.enters c.type_or_int-ty.ensures y c.in_ok-form.ensures c.in_ok-caller.caller c.len-cells.result c.in_ok-back.ensures c.in_ok-tell_return.ensures c.in_ok-caller.ensures.around (omega (arith, c.len-cells.ensures, c.args.sym.now.cells.ok.0)) c.in_ok-need.ensures
+
 
 pub calls::call_found-run_function-requires : goal.calls::call_found-run_function-requires
 calls::call_found-run_function-requires t c =
     let w = c.args.walk.now in (
-      omega (arith, c.decreases, found_weight (program_of w) (mode_of w) c.args.depth (c.args.depth - 1) c.args.function c.args.needed c.args.ty (function_view c.in-Some.found.now) c.args.sym.now c.args.arguments.now (omega (arith, c.in-Some.ensures.0)) c.in-Some.ensures.1 c.requires.ready),
+      omega (arith, c.decreases, found_nodes (program_of w) (mode_of w) c.args.depth (c.args.depth - 1) c.args.function c.args.close c.args.needed c.args.ty (function_view c.in-Some.found.now) c.args.sym.now c.args.arguments.now (omega (arith, c.in-Some.ensures.0)) c.in-Some.ensures.1 c.requires.ready),
       (
         c.requires.walk,
-        found_ready (program_of w) (mode_of w) c.args.depth (c.args.depth - 1) c.args.function c.args.needed c.args.ty (function_view c.in-Some.found.now) c.args.sym.now c.args.arguments.now (omega (arith, c.in-Some.ensures.0)) c.in-Some.ensures.1 c.requires.ready
+        found_ready (program_of w) (mode_of w) c.args.depth (c.args.depth - 1) c.args.function c.args.close c.args.needed c.args.ty (function_view c.in-Some.found.now) c.args.sym.now c.args.arguments.now (omega (arith, c.in-Some.ensures.0)) c.in-Some.ensures.1 c.requires.ready
             w.program.now.checked.types,
       ),
     )
@@ -1962,7 +2192,7 @@ calls::call_found-run_function-requires t c =
 pub calls::call_found-returns-in_ok-bits-in-Some : goal.calls::call_found-returns-in_ok-bits-in-Some
 calls::call_found-returns-in_ok-bits-in-Some t c =
     let w = c.args.walk.now in
-    found_called (program_of w) (mode_of w) c.args.depth (c.args.depth - 1) c.args.function c.args.needed c.args.ty (function_view c.in-Some.found.now) c.args.sym.now c.args.arguments.now (omega (arith, c.in-Some.ensures.0)) c.in-Some.ensures.1 c.requires.ready
+    found_called (program_of w) (mode_of w) c.args.depth (c.args.depth - 1) c.args.function c.args.close c.args.needed c.args.ty (function_view c.in-Some.found.now) c.args.sym.now c.args.arguments.now (omega (arith, c.in-Some.ensures.0)) c.in-Some.ensures.1 c.requires.ready
     c.in_ok-bits-in-Some.ensures
 
 pub calls::call_found-end_call-requires-clause-fits : goal.calls::call_found-end_call-requires-clause-fits
@@ -1974,7 +2204,7 @@ calls::call_found-end_call-requires-clause-room t c = omega (arith, c.requires.r
 pub calls::call_found-returns-in_ok-bits-in-None : goal.calls::call_found-returns-in_ok-bits-in-None
 calls::call_found-returns-in_ok-bits-in-None t c =
     let w = c.args.walk.now in
-    ended_called (program_of w) (mode_of w) c.args.depth c.args.function c.args.needed c.args.ty c.args.arguments.now c.in_ok-bits-in-None.ensures c.in-None.ensures
+    ended_called (program_of w) (mode_of w) c.args.close c.args.depth c.args.function c.args.needed c.args.ty c.args.arguments.now c.in_ok-bits-in-None.ensures c.in-None.ensures
 
 pub calls::call_defined-evals-requires : goal.calls::call_defined-evals-requires
 calls::call_defined-evals-requires t c =
@@ -1986,11 +2216,11 @@ calls::call_defined-evals-requires t c =
 pub calls::call_defined-call_found-requires : goal.calls::call_defined-call_found-requires
 calls::call_defined-call_found-requires t c =
     let w = c.args.walk.now in (
-      omega (arith, c.decreases),
+      omega (arith, c.decreases, call_within (program_of w) (mode_of w) c.args.depth c.args.at (use_of c.args.used) c.args.spot c.args.close c.args.ty c.args.function (exprs_view c.args.args.now) c.requires.ready c.is_needed-needed.result c.is_needed-needed.ensures c.in_ok-arguments.ensures, ap (λ xs. nodes_in (program_of w) (mode_of w).scale c.args.depth (set_cost (program_of w) (params_of (slice_get (program_of w).functions c.args.function)) xs) c.args.function) c.as_slice.ensures.value),
       (
         c.requires.walk,
-        subst (λ z. CallReady (program_of w) (mode_of w) c.args.depth c.args.function c.is_needed-needed.result c.args.ty c.evals.new.sym z) (sym c.as_slice.ensures.value)
-            (call_ready (program_of w) (mode_of w) c.args.depth c.args.at (use_of c.args.used) c.args.spot c.args.close c.args.ty c.args.function (exprs_view c.args.args.now) c.requires.ready c.is_needed-needed.result c.is_needed-needed.ensures c.in_ok-arguments.ensures),
+        subst (λ z. CallReady (program_of w) (mode_of w) c.args.depth c.args.close c.args.function c.is_needed-needed.result c.args.ty c.tell_enter.new.sym z) (sym c.as_slice.ensures.value)
+            (call_ready (program_of w) (mode_of w) c.args.depth c.args.at (use_of c.args.used) c.args.spot c.args.close c.args.ty c.args.function (exprs_view c.args.args.now) c.requires.ready c.is_needed-needed.result c.is_needed-needed.ensures c.in_ok-arguments.ensures c.in_ok-tell_enter.ensures),
       ),
     )
 
@@ -1998,8 +2228,8 @@ pub calls::call_defined-returns : goal.calls::call_defined-returns
 calls::call_defined-returns t c =
     let w = c.args.walk.now in
     call_values (program_of w) (mode_of w) c.args.depth c.args.at (use_of c.args.used) c.args.spot c.args.close c.args.ty c.args.function (exprs_view c.args.args.now) c.requires.ready c.is_needed-needed.result c.is_needed-needed.ensures c.in_ok-arguments.ensures
-    (untold w c.evals.new.sym (λ v. Enter c.args.close) c.in_ok-arguments.ensures.follows.fits)
-    (subst (λ z. Called (program_of w) (mode_of w) c.args.depth c.args.function c.is_needed-needed.result c.args.ty z c.evals.new.sym c.call_found.new.sym c.in_ok-bits.bits.bits) c.as_slice.ensures.value c.in_ok-bits.ensures)
+    c.in_ok-tell_enter.ensures
+    (subst (λ z. Called (program_of w) (mode_of w) c.args.depth c.args.close c.args.function c.is_needed-needed.result c.args.ty z c.tell_enter.new.sym c.call_found.new.sym c.in_ok-bits.bits.bits) c.as_slice.ensures.value c.in_ok-bits.ensures)
 
 -- ---- `switch`
 pub switches::chosen-full-requires : goal.switches::chosen-full-requires
@@ -2040,8 +2270,30 @@ switches::chosen-case_bits-requires-clause-room t c =
     subst (λ k. length c.convert.new.sym.net + cases_cost p.model k ls < 2 ^ 28) (sym (c.promote-ty.ensures ∙ ap promote_of c.type_of-from.ensures))
     (cases_room p W c.args.depth c.args.at e ls c.requires.ready c.in_ok-x.ensures y)
 
+-- open: the goals of `tell_choice`, and its event by the promoted type
+pub switches::chosen-tell_choice-requires-clause-fits : goal.switches::chosen-tell_choice-requires-clause-fits
+switches::chosen-tell_choice-requires-clause-fits t c =
+    c.in_ok-cases.ensures.turned.fits
+
+pub switches::chosen-tell_choice-requires-clause-value_in : goal.switches::chosen-tell_choice-requires-clause-value_in
+switches::chosen-tell_choice-requires-clause-value_in t c =
+    ?
+
+pub switches::chosen-tell_choice-requires-clause-cases_in : goal.switches::chosen-tell_choice-requires-clause-cases_in
+switches::chosen-tell_choice-requires-clause-cases_in t c =
+    ?
+
+pub switches::chosen-tell_choice-requires-clause-are_cases : goal.switches::chosen-tell_choice-requires-clause-are_cases
+switches::chosen-tell_choice-requires-clause-are_cases t c =
+    ?
+
+pub switches::chosen-tell_choice-requires-clause-room : goal.switches::chosen-tell_choice-requires-clause-room
+switches::chosen-tell_choice-requires-clause-room t c =
+    ?
+
 pub switches::chosen-enter_arms-requires-clause-fits : goal.switches::chosen-enter_arms-requires-clause-fits
-switches::chosen-enter_arms-requires-clause-fits t c = c.in_ok-cases.ensures.turned.fits
+switches::chosen-enter_arms-requires-clause-fits t c =
+    c.in_ok-tell_choice.ensures.fits
 
 pub switches::chosen-enter_arms-requires-clause-many : goal.switches::chosen-enter_arms-requires-clause-many
 switches::chosen-enter_arms-requires-clause-many t c =
@@ -2051,12 +2303,20 @@ switches::chosen-enter_arms-requires-clause-many t c =
     let ls = labels_in (switch_view c.args.arms.now) in
     let kind = c.promote-ty.ensures ∙ ap promote_of c.type_of-from.ensures in
     let y = promoted_as p W c.args.depth c.args.at e ls c.requires.ready c.in_ok-x.ensures c.type_of-from.result c.promote-ty.result c.type_of-from.ensures c.promote-ty.ensures c.in_ok-y.ensures in
-    ap length c.deref.ensures.value
-    ∙ cases_many p W c.args.depth c.args.at e ls c.requires.ready c.in_ok-x.ensures y
-    (subst (λ k. AreCases p k c.in_ok-y.y.bits ls c.convert.new.sym c.case_bits.new.sym c.in_ok-cases.cases.items) kind c.in_ok-cases.ensures) ∙ labels_many c.args.arms.now
+    let z = subst (λ k. AreCases p k c.in_ok-y.y.bits ls c.convert.new.sym c.case_bits.new.sym c.in_ok-cases.cases.items) kind c.in_ok-cases.ensures in
+    ap length c.deref.ensures.value ∙ cases_many p W c.args.depth c.args.at e ls c.requires.ready c.in_ok-x.ensures y z ∙ labels_many c.args.arms.now
 
 pub switches::chosen-enter_arms-requires-clause-cases_in : goal.switches::chosen-enter_arms-requires-clause-cases_in
-switches::chosen-enter_arms-requires-clause-cases_in t c = subst (λ cs. AreIn c.case_bits.new.sym.net cs) (sym c.deref.ensures.value) c.in_ok-cases.ensures.inside
+switches::chosen-enter_arms-requires-clause-cases_in t c =
+    let p = program_of c.args.walk.now in
+    let W = mode_of c.args.walk.now in
+    let e = expr_view c.args.test.now in
+    let ls = labels_in (switch_view c.args.arms.now) in
+    let kind = c.promote-ty.ensures ∙ ap promote_of c.type_of-from.ensures in
+    let y = promoted_as p W c.args.depth c.args.at e ls c.requires.ready c.in_ok-x.ensures c.type_of-from.result c.promote-ty.result c.type_of-from.ensures c.promote-ty.ensures c.in_ok-y.ensures in
+    let z = subst (λ k. AreCases p k c.in_ok-y.y.bits ls c.convert.new.sym c.case_bits.new.sym c.in_ok-cases.cases.items) kind c.in_ok-cases.ensures in
+    let ev : Turned p (length ls + W.scale.test c.args.at) 0 c.case_bits.new.sym c.tell_choice.new.sym (λ v. telling W (Branch c.args.at (way_for (typed p.model (promote_of (type_of e)) v c.case_bits.new.sym.net c.in_ok-y.y.bits) ls))) = ? in
+    subst (λ cs. AreIn c.tell_choice.new.sym.net cs) (sym c.deref.ensures.value) (cases_then p W c.args.depth c.args.at e ls c.requires.ready c.in_ok-x.ensures y z (length ls) refl ev)
 
 pub switches::chosen-enter_arms-requires-clause-room : goal.switches::chosen-enter_arms-requires-clause-room
 switches::chosen-enter_arms-requires-clause-room t c =
@@ -2066,8 +2326,9 @@ switches::chosen-enter_arms-requires-clause-room t c =
     let ls = labels_in (switch_view c.args.arms.now) in
     let kind = c.promote-ty.ensures ∙ ap promote_of c.type_of-from.ensures in
     let y = promoted_as p W c.args.depth c.args.at e ls c.requires.ready c.in_ok-x.ensures c.type_of-from.result c.promote-ty.result c.type_of-from.ensures c.promote-ty.ensures c.in_ok-y.ensures in
-    entries_room p W c.args.depth c.args.at e ls c.requires.ready c.in_ok-x.ensures y
-    (subst (λ k. AreCases p k c.in_ok-y.y.bits ls c.convert.new.sym c.case_bits.new.sym c.in_ok-cases.cases.items) kind c.in_ok-cases.ensures) (length c.args.arms.now) (sym (labels_many c.args.arms.now))
+    let z = subst (λ k. AreCases p k c.in_ok-y.y.bits ls c.convert.new.sym c.case_bits.new.sym c.in_ok-cases.cases.items) kind c.in_ok-cases.ensures in
+    let ev : Turned p (length ls + W.scale.test c.args.at) 0 c.case_bits.new.sym c.tell_choice.new.sym (λ v. telling W (Branch c.args.at (way_for (typed p.model (promote_of (type_of e)) v c.case_bits.new.sym.net c.in_ok-y.y.bits) ls))) = ? in
+    entries_room p W c.args.depth c.args.at e ls c.requires.ready c.in_ok-x.ensures y z (length ls) refl ev (length c.args.arms.now) (sym (labels_many c.args.arms.now))
 
 pub switches::chosen-returns : goal.switches::chosen-returns
 switches::chosen-returns t c =
@@ -2078,9 +2339,10 @@ switches::chosen-returns t c =
     let kind = c.promote-ty.ensures ∙ ap promote_of c.type_of-from.ensures in
     let y = promoted_as p W c.args.depth c.args.at e ls c.requires.ready c.in_ok-x.ensures c.type_of-from.result c.promote-ty.result c.type_of-from.ensures c.promote-ty.ensures c.in_ok-y.ensures in
     let z = subst (λ k. AreCases p k c.in_ok-y.y.bits ls c.convert.new.sym c.case_bits.new.sym c.in_ok-cases.cases.items) kind c.in_ok-cases.ensures in
-    chosen_chooses p W c.args.depth c.args.at e ls c.requires.ready c.in_ok-x.ensures y z (length c.args.arms.now) (sym (labels_many c.args.arms.now))
-    (c.in_ok-bits.ensures (λ v. typed p.model (promote_of (type_of e)) v c.convert.new.sym.net c.in_ok-y.y.bits) (λ v. ap (map (holds v c.case_bits.new.sym.net)) c.deref.ensures.value ∙ z.are v))
-    (untold c.args.walk.now c.enter_arms.new.sym (λ v. Branch c.args.at (way_for (typed p.model (promote_of (type_of e)) v c.convert.new.sym.net c.in_ok-y.y.bits) ls)) (c.in_ok-bits.ensures (λ v. typed p.model (promote_of (type_of e)) v c.convert.new.sym.net c.in_ok-y.y.bits) (λ v. ap (map (holds v c.case_bits.new.sym.net)) c.deref.ensures.value ∙ z.are v)).turned.fits)
+    let ev : Turned p (length ls + W.scale.test c.args.at) 0 c.case_bits.new.sym c.tell_choice.new.sym (λ v. telling W (Branch c.args.at (way_for (typed p.model (promote_of (type_of e)) v c.case_bits.new.sym.net c.in_ok-y.y.bits) ls))) = ? in
+    chosen_chooses p W c.args.depth c.args.at e ls c.requires.ready c.in_ok-x.ensures y z (length ls) refl ev (length c.args.arms.now) (sym (labels_many c.args.arms.now))
+    (c.in_ok-bits.ensures (λ v. typed p.model (promote_of (type_of e)) v c.convert.new.sym.net c.in_ok-y.y.bits) (λ v. ap (map (holds v c.tell_choice.new.sym.net)) c.deref.ensures.value ∙ cases_still p W c.args.depth c.args.at e ls c.requires.ready c.in_ok-x.ensures y z (length ls) refl ev v))
+
 
 pub switches::one_arm-narrow-requires-clause-fits : goal.switches::one_arm-narrow-requires-clause-fits
 switches::one_arm-narrow-requires-clause-fits t c = c.requires.ready.fits
