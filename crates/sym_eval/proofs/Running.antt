@@ -103,22 +103,22 @@ module _ (p : Program) (W : Mode) (n : ℕ) (close : Spot) (needed : Bool) (resu
 
           pub function_run : IsAround r a → k ≡ length a.cells.items → {m : Sym} → Turned p 1 0 t m (λ v. stopped (needed && not (holds v t.net gave))) → HasRun p W n close needed fn xs a m bits
           function_run u ek {m} y1 =
-            let value : (ℕ → Bool) → ℤ = λ v. typed p.model (type_or_int result) v g.net bits in
-            let bits_in : AreTyped p.model (type_or_int result) g.net bits = back_in w in
-            let same : d.result ≡ type_or_int result = z.result ∙ (y W result).result ∙ x.result ∙ e in
-            let back = called_follows p W.duties result (set_cost p params xs + (form_glue + weight_of_form p W n result at f) + 3) ty (λ v. holds v g.net gave) value x whole_runs
-            (came_returns p r k a d g bits gave h.fits u whole_added ek w) (λ v. w.gave v) (λ v. ap (λ t. typed p.model t v g.net bits) (sym same) ∙ w.value v) (omega arith) in
-            let event : (site : Site) → site.close ≡ close → Turned p (W.scale.returns close) 0 g t (λ v. telling W (Return site.close (value_given result (holds v g.net gave) (value v)))) =
-            λ site ec. told_as p W (λ v. Return site.close (value_given result (holds v g.net gave) (value v))) ev (λ v. ap₂ (λ c i. Return c (value_given result (holds v g.net gave) (typed p.model i v g.net bits))) (sym ec) e) in
-            let stays : (v : ℕ → Bool) → holds v t.net gave ≡ holds v g.net gave = λ v. holds_added ev.added v gave w.gave_in in
-            record {
-              bits_in = are_typed_added y1.added (are_typed_added ev.added bits_in);
-              follows = λ site ec en.
-                  let end : Turned p 1 0 t m (λ v. stopped (site.needed && not (holds v g.net gave))) =
-                  turned_as p (λ v. stopped (site.needed && not (holds v g.net gave))) (subst (λ b. Turned p 1 0 t m (λ v. stopped (b && not (holds v t.net gave)))) (sym en) y1)
-                  (λ v. ap (λ b. stopped (site.needed && not b) (stand p v t)) (stays v)) in
-                  let same_value : (v : ℕ → Bool) → typed p.model (type_or_int result) v m.net bits ≡ value v = λ v.
-                  typed_added y1.added p.model (type_or_int result) v bits (are_typed_added ev.added bits_in) ∙ typed_added ev.added p.model (type_or_int result) v bits bits_in in
-                  let done = returned_follows p W result site (λ q. en ∙ h.void q) (λ v. with_params p (judged p W) params (values_at p v a.net xs) (run_in p (judged p W) (suc n) fn) true) (W.scale.returns close + weight_of_run p W n fn xs) (λ v. holds v g.net gave) value back (event site ec) end (omega arith) in
-                  follows_as p W.duties done (λ v o q. subst (λ b. is_value b (typed p.model (type_or_int result) v m.net bits) o) en (subst (λ t. is_value site.needed t o) (sym (same_value v)) q)) (λ v s. refl) (omega arith) (omega arith);
-            }
+              let value : (ℕ → Bool) → ℤ = λ v. typed p.model (type_or_int result) v g.net bits in
+              let bits_in : AreTyped p.model (type_or_int result) g.net bits = back_in w in
+              let same : d.result ≡ type_or_int result = z.result ∙ (y W result).result ∙ x.result ∙ e in
+              let back = called_follows p W.duties result (set_cost p params xs + (form_glue + weight_of_form p W n result at f) + 3) ty (λ v. holds v g.net gave) value x whole_runs
+              (came_returns p r k a d g bits gave h.fits u whole_added ek w) (λ v. w.gave v) (λ v. ap (λ t. typed p.model t v g.net bits) (sym same) ∙ w.value v) (omega arith) in
+              let event : (site : Site) → site.close ≡ close → Turned p (W.scale.returns close) 0 g t (λ v. telling W (Return site.close (value_given result (holds v g.net gave) (value v)))) =
+              λ site ec. told_as p W (λ v. Return site.close (value_given result (holds v g.net gave) (value v))) ev (λ v. ap₂ (λ c i. Return c (value_given result (holds v g.net gave) (typed p.model i v g.net bits))) (sym ec) e) in
+              let stays : (v : ℕ → Bool) → holds v t.net gave ≡ holds v g.net gave = λ v. holds_added ev.added v gave w.gave_in in
+              record {
+                bits_in = are_typed_added y1.added (are_typed_added ev.added bits_in);
+                follows = λ site ec en.
+                    let end : Turned p 1 0 t m (λ v. stopped (site.needed && not (holds v g.net gave))) =
+                    turned_as p (λ v. stopped (site.needed && not (holds v g.net gave))) (subst (λ b. Turned p 1 0 t m (λ v. stopped (b && not (holds v t.net gave)))) (sym en) y1)
+                    (λ v. ap (λ b. stopped (site.needed && not b) (stand p v t)) (stays v)) in
+                    let same_value : (v : ℕ → Bool) → typed p.model (type_or_int result) v m.net bits ≡ value v = λ v.
+                    typed_added y1.added p.model (type_or_int result) v bits (are_typed_added ev.added bits_in) ∙ typed_added ev.added p.model (type_or_int result) v bits bits_in in
+                    let done = returned_follows p W result site (λ q. en ∙ h.void q) (λ v. with_params p (judged p W) params (values_at p v a.net xs) (run_in p (judged p W) (suc n) fn) true) (W.scale.returns close + weight_of_run p W n fn xs) (λ v. holds v g.net gave) value back (event site ec) end (omega arith) in
+                    follows_as p W.duties done (λ v o q. subst (λ b. is_value b (typed p.model (type_or_int result) v m.net bits) o) en (subst (λ t. is_value site.needed t o) (sym (same_value v)) q)) (λ v s. refl) (omega arith) (omega arith);
+              }

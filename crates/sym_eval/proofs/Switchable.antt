@@ -41,7 +41,7 @@ use Rattle.sym_state.specs.Standing.{Stand, stand, IsState, Turned, with_live}
 use Rattle.sym_state.specs.Following.{Follows}
 use Rattle.sym_state.proofs.Composed.{follows_then, net_follows}
 use Rattle.sym_choices.proofs.Labels.{label_of, labels_are, arms_more}
-use Rattle.sym_state.proofs.Nets.{in_added, holds_added, typed_added, all_added, all_held, longer_by}
+use Rattle.sym_state.proofs.Nets.{in_added, holds_added, typed_added, all_added, longer_by}
 use Rattle.sym_choices.proofs.Held.{all_held}
 use Rattle.sym_state.proofs.Turning.{turned_then}
 use Rattle.sym_choices.specs.Cases.{AreCases, cases_cost}
@@ -208,20 +208,20 @@ module _ (p : Program) (W : Mode) (n : ℕ) where
 
             pub chosen_chooses : {d : Sym} {bits : List Bit} (j : ℕ) → j ≡ length ls → Entered p (2 * j) ls value t d bits → Chooses p W n at e ls s d bits
             chosen_chooses {d} {bits} j u w =
-              let two = turned_then p (conversion_cost p.model (type_of e) promoted + cases_cost p.model promoted ls) 0 y.turned z.turned (omega arith) (omega arith) in
-              let event = told_as p W (λ v. Branch at (way_for (value v) ls)) ev (λ v. ap (λ i. Branch at (way_for i ls)) (typed_added z.turned.added p.model promoted v ys y.bits_in)) in
-              let entered : Follows W.duties p (2 * j) 0 t d (λ v i. map (holds v d.net) bits ≡ done_from i ls) (λ v s. Go (arm_for (value v) ls) s) = net_follows p W.duties (λ v. arm_for (value v) ls) w.turned (λ v. w.are v) in
-              let chosen : Follows W.duties p (W.scale.test at + 3 * length ls) 0 c d (λ v i. map (holds v d.net) bits ≡ done_from i ls) (λ v. selected p W at (value v) ls) =
-              follows_then p W.duties (W.scale.test at + 3 * length ls) 0 (λ v u s. Go (arm_for (value v) ls) s) (told_follows p W (λ v. Branch at (way_for (value v) ls)) event) entered (λ v u i s. refl) (omega (arith, q, u)) (omega arith) in
-              record {
-                many = done_many (λ k. false) w;
-                inside = w.inside;
-                follows = follows_then p W.duties (weight_of_choice p W n at e ls) (bits_of p W n e) (λ v z. selected p W at (fit p.model promoted z) ls) x.follows
-                    (follows_then p W.duties (W.scale.test at + choice_cost p W n (type_of e) ls) 0 (λ v u. selected p W at (value v) ls)
-                    (net_follows p W.duties {S = λ v u. Unit {0}} (λ v. tt {0}) two (λ v. tt {0})) chosen (λ v u t s. refl) (omega arith) (omega arith))
-                    (λ v z t s. ap (λ w. selected p W at w ls s) (ap (fit p.model promoted) (number_as p W n a xs e (type_of e) test_type v z t) ∙ sym (y.is v)))
-                    (omega arith) (omega arith);
-              }
+                let two = turned_then p (conversion_cost p.model (type_of e) promoted + cases_cost p.model promoted ls) 0 y.turned z.turned (omega arith) (omega arith) in
+                let event = told_as p W (λ v. Branch at (way_for (value v) ls)) ev (λ v. ap (λ i. Branch at (way_for i ls)) (typed_added z.turned.added p.model promoted v ys y.bits_in)) in
+                let entered : Follows W.duties p (2 * j) 0 t d (λ v i. map (holds v d.net) bits ≡ done_from i ls) (λ v s. Go (arm_for (value v) ls) s) = net_follows p W.duties (λ v. arm_for (value v) ls) w.turned (λ v. w.are v) in
+                let chosen : Follows W.duties p (W.scale.test at + 3 * length ls) 0 c d (λ v i. map (holds v d.net) bits ≡ done_from i ls) (λ v. selected p W at (value v) ls) =
+                follows_then p W.duties (W.scale.test at + 3 * length ls) 0 (λ v u s. Go (arm_for (value v) ls) s) (told_follows p W (λ v. Branch at (way_for (value v) ls)) event) entered (λ v u i s. refl) (omega (arith, q, u)) (omega arith) in
+                record {
+                  many = done_many (λ k. false) w;
+                  inside = w.inside;
+                  follows = follows_then p W.duties (weight_of_choice p W n at e ls) (bits_of p W n e) (λ v z. selected p W at (fit p.model promoted z) ls) x.follows
+                      (follows_then p W.duties (W.scale.test at + choice_cost p W n (type_of e) ls) 0 (λ v u. selected p W at (value v) ls)
+                      (net_follows p W.duties {S = λ v u. Unit {0}} (λ v. tt {0}) two (λ v. tt {0})) chosen (λ v u t s. refl) (omega arith) (omega arith))
+                      (λ v z t s. ap (λ w. selected p W at w ls s) (ap (fit p.model promoted) (number_as p W n a xs e (type_of e) test_type v z t) ∙ sym (y.is v)))
+                      (omega arith) (omega arith);
+                }
 
   module _ (gives : Option IntType) where
     -- ---- one arm

@@ -69,8 +69,8 @@ module _ (p : Program) (W : Mode) (n : ℕ) (gives : Option IntType) (at : Spot)
       runs_then p W.duties gives (last_glue + (turn_glue * suc r + weight_of_turns p W n gives (suc r) at l)) (bits_of_turns p W n gives (suc r) at l) x y (omega arith) (omega arith)
 
   -- ---- the last test
-  pub last_room : {a b : Sym} {l : Option Loop} → TurnsReady p W n gives 0 at a l → LastDoes p W n gives at l a b → length b.net < 2 ^ 27
-  last_room h x = omega (arith, h.room, (longer_by x.added).1)
+  pub last_test_room : {a b : Sym} {l : Option Loop} → TurnsReady p W n gives 0 at a l → LastDoes p W n gives at l a b → length b.net < 2 ^ 27
+  last_test_room h x = omega (arith, h.room, (longer_by x.added).1)
 
   last_same : (l : Option Loop) → IsTrue (is_some l) → (s : JudgedState) → bind (last_tested p W n gives at l s) (go_on (stop Passes)) ≡ bind (turned p W n gives false at l s) (go_on (stop Passes))
   last_same None h s = refl

@@ -187,7 +187,7 @@ fn one_turn(
     f: &Form,
 ) -> Result<(), OutOfMemory>
     requires walk { IsWalk walk.now }
-    requires is { walk.now.mode ≡ Obliges mode }
+    requires judging { walk.now.mode ≡ Obliges mode }
     requires ready { LoopReady (program_of walk.now) (mode_of walk.now) depth gives at sym.old
         (loop_of (form_view f.now)) }
     ensures { IfOk result (λ r. LoopDoes (program_of walk.now) (mode_of walk.now) depth gives at
@@ -279,7 +279,7 @@ fn all_turns(
     f: &Form,
 ) -> Result<(), OutOfMemory>
     requires walk { IsWalk walk.now }
-    requires is { walk.now.mode ≡ Seeks mode }
+    requires judging { walk.now.mode ≡ Seeks mode }
     requires ready { LoopReady (program_of walk.now) (mode_of walk.now) depth gives at sym.old
         (loop_of (form_view f.now)) }
     ensures { IfOk result (λ r. LoopDoes (program_of walk.now) (mode_of walk.now) depth gives at

@@ -1,7 +1,7 @@
 use mir.Val.{SFits, to_z, of_z}
 use mir.Syntax.{w128}
 use Rattle.std.proofs.lemmas.Int.{to_z-of_z}
-use Rattle.std.proofs.Common.{rules, cond, ◌≡◌, ◌∙◌, refl, sym, ap, ap₂, subst, arith, None, Some, length, vec_len, IfOk, IsTrue, ◌+◌, ◌*◌, take, ◌<◌, ◌^◌, ◌-◌, false, get_or, map, not}
+use Rattle.std.proofs.Common.{rules, cond, suc, slice_get, ◌≡◌, ◌≤◌, ◌∙◌, refl, sym, ap, ap₂, subst, arith, None, Some, length, vec_len, IfOk, IsTrue, ◌+◌, ◌*◌, take, ◌<◌, ◌^◌, ◌-◌, false, get_or, map, not}
 use Rattle.c_core.specs.Operators.{type_for, op_of_step, is_prefix}
 use Rattle.c_core.specs.Tree.{Expr, Const, Var, Index, Unary, Cast, Step, Binary, Logic, Choose, Comma, Assign, Call, MoreExp, NoExp, Many, Rows, FirstNames, Return, Declare, Block, If, Label, OrElse, While, DoWhile, For, Switch}
 use Rattle.c_core.specs.View.{expr_view, exprs_view, node_view, init_view, names_view, rows_view, first_view, expr_view_if, form_view, stmt_view, stmts_view, function_view, switch_view}
@@ -9,7 +9,7 @@ use Rattle.c_core.specs.declared.number.IntType.TheVariants.{Int}
 use Rattle.c_core.specs.declared.tree.Callee.TheVariants.{Defined, Input, ReachError, Abort, Exit}
 use Rattle.c_core.proofs.View.{view_of_index, view_of_call, view_of_block, view_of_switch}
 use Rattle.c_core.specs.Types.{is_zero}
-use Rattle.c_meaning.specs.declared.run.Event.TheVariants.{Branch, Enter, Return as Returned}
+use Rattle.c_meaning.specs.declared.run.Event.TheVariants.{Branch}
 use Rattle.c_meaning.specs.declared.run.Way.TheVariants.{Truth}
 use Rattle.c_meaning.specs.Run.{way_for}
 use Rattle.c_meaning.specs.Meaning.{Used, Unused, WhileLoop, DoLoop, ForLoop}
@@ -19,7 +19,7 @@ use Rattle.sym_exprs.specs.Evaluating.{use_of, weight_of, Ready, Values}
 use Rattle.sym_exprs.specs.Targeting.{weight_of_target, TargetReady}
 use Rattle.sym_exprs.proofs.Typed.{unary_parts, cast_parts, binary_parts, comma_parts, logic_parts, choose_parts, assign_parts, step_parts, exit_counts}
 use Rattle.sym_exprs.proofs.Forms.{first_ready, next_ready, wanted, unary_side, unary_step, binary_sides, binary_step, void_values, cast_side, cast_step, comma_values}
-use Rattle.sym_exprs.proofs.Choosing.{kept_in, where_ready, where_values, logic_first, logic_where, logic_second, logic_bits, logic_step, pick_first, pick_yes, pick_yes_value, pick_no, pick_no_value, pick_last, pick_step, void_no, void_step}
+use Rattle.sym_exprs.proofs.Choosing.{kept_in, where_ready, where_values, logic_first, logic_where, logic_second, logic_bits, logic_step, pick_first, branched, branch_room, pick_yes, pick_yes_value, pick_no, pick_no_value, pick_last, pick_step, void_no, void_step}
 use Rattle.sym_exprs.proofs.Assigning.{assign_target, step_target, assign_value, replace_sides, replace_step, update_sides, update_last, update_step, step_sides, step_last, step_step}
 use Rattle.sym_exprs.proofs.Calls.{site_of, input_values, reach_values, abort_values, exit_ready, exit_room, exit_values}
 use Rattle.sym_walk.specs.Walking.{program_of, mode_of}
@@ -35,14 +35,14 @@ use Rattle.circuits.specs.Net.{IsIn, opposite, holds}
 use Rattle.sym_weight.specs.Views.{else_of}
 use Rattle.sym_eval.proofs.Choices.{choose_runs}
 use Rattle.sym_eval.specs.Control.{weight_of_test, weight_of_step, TestIfReady, TestIfDoes, StepReady, StepDoes}
-use Rattle.sym_eval.specs.Looping.{weight_of_turn, TurnReady, TurnDoes, ForReady, ForDoes, LoopDoes}
-use Rattle.sym_eval.proofs.Deciding.{full_ready, full_gives, control_ready, control_bits, decides, test_ready, test_does, some_test_ready, no_test, some_step_ready, no_step, some_step}
+use Rattle.sym_eval.specs.Looping.{turn_glue, weight_of_turn, TurnReady, TurnDoes, weight_of_turns, TurnsReady, TurnsDo, weight_of_loop, LoopReady, ForReady, ForDoes, LoopDoes}
+use Rattle.sym_eval.proofs.Deciding.{full_ready, full_gives, control_ready, control_room, control_bits, decides, test_ready, test_does, some_test_ready, no_test, some_step_ready, no_step, some_step}
 use Rattle.sym_eval.proofs.Loopless.{no_loop}
-use Rattle.sym_eval.proofs.Turns.{stays_in, body_starts, body_ends, body_does, while_tests, while_goes_on, while_does, do_starts, do_tests, do_does, for_tests, for_goes_on, for_steps, for_turn_does, no_turn, head_room, turn_starts, head_room_again, outer_kept, loop_ends, loop_does, for_starts, for_arrives, for_does, for_ready, for_form, loop_ready, while_form, do_form, loop_within, for_within}
+use Rattle.sym_eval.proofs.Turns.{stays_in, body_starts, body_ends, body_does, while_tests, while_goes_on, while_does, do_starts, do_tests, do_does, for_tests, for_goes_on, for_steps, for_turn_does, no_turn, turn_within, head_room, turn_starts, head_room_again, outer_kept, loop_ends, loop_does, for_starts, for_arrives, for_does, for_ready, for_form, loop_ready, while_form, do_form, loop_within, for_within}
 use Rattle.sym_eval.specs.Calling.{AllValues, Sets, set_cost, CallReady, Called}
 use Rattle.sym_eval.proofs.Arguments.{argument_ready, first_values, next_values, argument_weight}
-use Rattle.sym_eval.proofs.Running.{entered_arguments, entered_room, body_ready, back_around, back_room, need_room, function_run}
-use Rattle.sym_eval.proofs.Reached.{ended_called, found_ready, found_called, arguments_ready, call_ready, call_values, found_weight}
+use Rattle.sym_eval.proofs.Running.{entered_arguments, entered_room, body_ready, back_around, back_room, told_in, told_room, need_in, need_room, function_run}
+use Rattle.sym_eval.proofs.Reached.{ended_called, found_ready, found_called, arguments_ready, call_ready, call_within, call_values, found_nodes}
 use Rattle.c_core.specs.Types.{promote_of}
 use Rattle.c_core.specs.Typing.{label_fits, labels_in}
 use Rattle.c_core.proofs.Promoted.{IsPromoted-promote_of}
@@ -50,7 +50,20 @@ use Rattle.circuits.specs.Numbers.{typed, AreIn}
 use Rattle.sym_choices.specs.Cases.{AreCases, cases_cost}
 use Rattle.sym_eval.specs.Switching.{ArmsDo, ArmReady, ArmDoes, ArmsReady}
 use Rattle.std.specs.List.{list_all}
-use Rattle.sym_eval.proofs.Switchable.{labels_many, chosen_by_ready, chosen_by_in, chosen_by_room, promoted_as, cases_room, entries_room, cases_many, chosen_chooses, arm_room, arm_starts, arm_still, arm_room_again, arm_last_in, arm_last_room, arm_does, arms_none, arms_part, arms_next, arms_on, switch_chooses, arms_start, switch_kept_in, switch_room, switch_does}
+use Rattle.sym_eval.proofs.Switchable.{labels_many, chosen_by_ready, chosen_by_in, chosen_by_room, promoted_as, cases_room, entries_room, cases_many, cases_then, cases_still, chosen_chooses, arm_room, arm_starts, arm_still, arm_room_again, arm_last_in, arm_last_room, arm_does, arms_none, arms_part, arms_next, arms_on, switch_chooses, arms_start, switch_kept_in, switch_room, switch_does}
+use Rattle.c_core.specs.declared.number.IntType.TheVariants.{Bool as BoolType}
+use Rattle.c_core.specs.Types.{width_of}
+use Rattle.c_meaning.specs.Placing.{placed_view}
+use Rattle.circuits.specs.Outcome.{conversion_cost}
+use Rattle.sym_exprs.proofs.Costs.{test_costs}
+use Rattle.sym_scale.specs.Cost.{nodes_in}
+use Rattle.sym_state.proofs.Telling.{told_as}
+use Rattle.sym_state.specs.Standing.{Turned}
+use Rattle.sym_state.specs.Telling.{telling}
+use Rattle.sym_walk.specs.Walking.{segments_of, mode_by, IsJudging}
+use Rattle.sym_walk.specs.declared.walk.Judging.TheVariants.{Obliges, Seeks}
+use Rattle.sym_weight.specs.Table.{params_of}
+use Rattle.sym_eval.proofs.Taken.{turn_first, turns_next, turns_more, last_test_room, turns_end, all_ready, turns_within, all_done}
 use Rattle.sym_eval.proofs.+walk.Goals as goal
 
 pub expressions::eval-constant-requires-clause-ready : goal.expressions::eval-constant-requires-clause-ready
@@ -1702,7 +1715,7 @@ loops::turn-returns-in_default t c =
 -- ---- a loop in the mode of obligations
 pub loops::one_turn-head-requires-clause-obliged : goal.loops::one_turn-head-requires-clause-obliged
 loops::one_turn-head-requires-clause-obliged t c =
-    subst (IsJudging c.args.walk.now) c.requires.is c.requires.walk
+    subst (IsJudging c.args.walk.now) c.requires.judging c.requires.walk
 
 pub loops::one_turn-head-requires-clause-fits : goal.loops::one_turn-head-requires-clause-fits
 loops::one_turn-head-requires-clause-fits t c =
@@ -1716,7 +1729,7 @@ loops::one_turn-head-requires-clause-room t c =
     let gives = c.args.gives in
     let l = loop_of (form_view c.args.f.now) in
     let I = placed_view c.args.mode.invariants.now in
-    let ready = subst (λ m. LoopReady p (mode_by w m) n gives c.args.at c.args.sym.now l) c.requires.is c.requires.ready in
+    let ready = subst (λ m. LoopReady p (mode_by w m) n gives c.args.at c.args.sym.now l) c.requires.judging c.requires.ready in
     head_room p I n gives c.args.at l ready c.start_loop-kept.ensures.became
 
 pub loops::one_turn-turn-requires : goal.loops::one_turn-turn-requires
@@ -1727,15 +1740,15 @@ loops::one_turn-turn-requires t c =
     let gives = c.args.gives in
     let l = loop_of (form_view c.args.f.now) in
     let I = placed_view c.args.mode.invariants.now in
-    let ready = subst (λ m. LoopReady p (mode_by w m) n gives c.args.at c.args.sym.now l) c.requires.is c.requires.ready in
-    let within = subst (λ m. weight_of_turn p (mode_by w m) n gives c.args.at l ≤ weight_of_loop p (mode_by w m) n gives c.args.at l) (sym c.requires.is) (turn_within p I n gives c.args.at l) in (
+    let ready = subst (λ m. LoopReady p (mode_by w m) n gives c.args.at c.args.sym.now l) c.requires.judging c.requires.ready in
+    let within = subst (λ m. weight_of_turn p (mode_by w m) n gives c.args.at l ≤ weight_of_loop p (mode_by w m) n gives c.args.at l) (sym c.requires.judging) (turn_within p I n gives c.args.at l) in (
       omega (arith, c.decreases, within),
-      (c.requires.walk, subst (λ m. TurnReady p (mode_by w m) n gives c.args.at c.head.new.sym l) (sym c.requires.is) (turn_starts p I n gives c.args.at l ready c.start_loop-kept.ensures.became c.in_ok-head.ensures)),
+      (c.requires.walk, subst (λ m. TurnReady p (mode_by w m) n gives c.args.at c.head.new.sym l) (sym c.requires.judging) (turn_starts p I n gives c.args.at l ready c.start_loop-kept.ensures.became c.in_ok-head.ensures)),
     )
 
 pub loops::one_turn-test_all-requires-clause-obliged : goal.loops::one_turn-test_all-requires-clause-obliged
 loops::one_turn-test_all-requires-clause-obliged t c =
-    subst (IsJudging c.args.walk.now) c.requires.is c.requires.walk
+    subst (IsJudging c.args.walk.now) c.requires.judging c.requires.walk
 
 pub loops::one_turn-test_all-requires-clause-fits : goal.loops::one_turn-test_all-requires-clause-fits
 loops::one_turn-test_all-requires-clause-fits t c =
@@ -1749,8 +1762,8 @@ loops::one_turn-test_all-requires-clause-room t c =
     let gives = c.args.gives in
     let l = loop_of (form_view c.args.f.now) in
     let I = placed_view c.args.mode.invariants.now in
-    let ready = subst (λ m. LoopReady p (mode_by w m) n gives c.args.at c.args.sym.now l) c.requires.is c.requires.ready in
-    let done = subst (λ m. TurnDoes p (mode_by w m) n gives c.args.at l c.head.new.sym c.turn.new.sym) c.requires.is c.in_ok-turn.ensures in
+    let ready = subst (λ m. LoopReady p (mode_by w m) n gives c.args.at c.args.sym.now l) c.requires.judging c.requires.ready in
+    let done = subst (λ m. TurnDoes p (mode_by w m) n gives c.args.at l c.head.new.sym c.turn.new.sym) c.requires.judging c.in_ok-turn.ensures in
     omega (arith, head_room_again p I n gives c.args.at l ready c.start_loop-kept.ensures.became c.in_ok-head.ensures done)
 
 pub loops::one_turn-end-requires-clause-fits : goal.loops::one_turn-end-requires-clause-fits
@@ -1765,8 +1778,8 @@ loops::one_turn-end-requires-clause-room t c =
     let gives = c.args.gives in
     let l = loop_of (form_view c.args.f.now) in
     let I = placed_view c.args.mode.invariants.now in
-    let ready = subst (λ m. LoopReady p (mode_by w m) n gives c.args.at c.args.sym.now l) c.requires.is c.requires.ready in
-    let done = subst (λ m. TurnDoes p (mode_by w m) n gives c.args.at l c.head.new.sym c.turn.new.sym) c.requires.is c.in_ok-turn.ensures in
+    let ready = subst (λ m. LoopReady p (mode_by w m) n gives c.args.at c.args.sym.now l) c.requires.judging c.requires.ready in
+    let done = subst (λ m. TurnDoes p (mode_by w m) n gives c.args.at l c.head.new.sym c.turn.new.sym) c.requires.judging c.in_ok-turn.ensures in
     omega (arith, head_room_again p I n gives c.args.at l ready c.start_loop-kept.ensures.became c.in_ok-head.ensures done, (longer_by c.in_ok-test_all.ensures.added).1)
 
 pub loops::one_turn-end_loop-requires-clause-fits : goal.loops::one_turn-end_loop-requires-clause-fits
@@ -1781,8 +1794,8 @@ loops::one_turn-end_loop-requires-clause-kept_in t c =
     let gives = c.args.gives in
     let l = loop_of (form_view c.args.f.now) in
     let I = placed_view c.args.mode.invariants.now in
-    let ready = subst (λ m. LoopReady p (mode_by w m) n gives c.args.at c.args.sym.now l) c.requires.is c.requires.ready in
-    let done = subst (λ m. TurnDoes p (mode_by w m) n gives c.args.at l c.head.new.sym c.turn.new.sym) c.requires.is c.in_ok-turn.ensures in
+    let ready = subst (λ m. LoopReady p (mode_by w m) n gives c.args.at c.args.sym.now l) c.requires.judging c.requires.ready in
+    let done = subst (λ m. TurnDoes p (mode_by w m) n gives c.args.at l c.head.new.sym c.turn.new.sym) c.requires.judging c.in_ok-turn.ensures in
     let ended = c.in_ok-end.ensures (mode_by w (Obliges c.args.mode)) in
     outer_kept p I n gives c.args.at l ready c.start_loop-kept.ensures.became c.in_ok-head.ensures done c.in_ok-test_all.ensures ended c.start_loop-kept.result c.start_loop-kept.ensures.kept
 
@@ -1794,8 +1807,8 @@ loops::one_turn-end_loop-requires-clause-room t c =
     let gives = c.args.gives in
     let l = loop_of (form_view c.args.f.now) in
     let I = placed_view c.args.mode.invariants.now in
-    let ready = subst (λ m. LoopReady p (mode_by w m) n gives c.args.at c.args.sym.now l) c.requires.is c.requires.ready in
-    let done = subst (λ m. TurnDoes p (mode_by w m) n gives c.args.at l c.head.new.sym c.turn.new.sym) c.requires.is c.in_ok-turn.ensures in
+    let ready = subst (λ m. LoopReady p (mode_by w m) n gives c.args.at c.args.sym.now l) c.requires.judging c.requires.ready in
+    let done = subst (λ m. TurnDoes p (mode_by w m) n gives c.args.at l c.head.new.sym c.turn.new.sym) c.requires.judging c.in_ok-turn.ensures in
     let ended = c.in_ok-end.ensures (mode_by w (Obliges c.args.mode)) in
     omega (arith, head_room_again p I n gives c.args.at l ready c.start_loop-kept.ensures.became c.in_ok-head.ensures done, (longer_by c.in_ok-test_all.ensures.added).1, (longer_by ended.added).1)
 
@@ -1807,13 +1820,13 @@ loops::one_turn-returns t c =
     let gives = c.args.gives in
     let l = loop_of (form_view c.args.f.now) in
     let I = placed_view c.args.mode.invariants.now in
-    let ready = subst (λ m. LoopReady p (mode_by w m) n gives c.args.at c.args.sym.now l) c.requires.is c.requires.ready in
-    let done = subst (λ m. TurnDoes p (mode_by w m) n gives c.args.at l c.head.new.sym c.turn.new.sym) c.requires.is c.in_ok-turn.ensures in
+    let ready = subst (λ m. LoopReady p (mode_by w m) n gives c.args.at c.args.sym.now l) c.requires.judging c.requires.ready in
+    let done = subst (λ m. TurnDoes p (mode_by w m) n gives c.args.at l c.head.new.sym c.turn.new.sym) c.requires.judging c.in_ok-turn.ensures in
     let ended = c.in_ok-end.ensures (mode_by w (Obliges c.args.mode)) in
     let count : vec_len c.args.sym.now.cells ≡ length c.args.sym.now.cells.items = search rules in
     let last = loop_ends p I n gives c.args.at l ready c.start_loop-kept.ensures.became c.in_ok-head.ensures done c.in_ok-test_all.ensures ended c.start_loop-kept.result c.start_loop-kept.ensures.kept
     c.len-cells.result (c.len-cells.ensures ∙ count) c.in_ok-end_loop.ensures in
-    subst (λ m. LoopDoes p (mode_by w m) n gives c.args.at l c.args.sym.now c.end_loop.new.sym) (sym c.requires.is) (loop_does p I n gives c.args.at l ready c.start_loop-kept.ensures.became c.in_ok-head.ensures done c.in_ok-test_all.ensures ended last)
+    subst (λ m. LoopDoes p (mode_by w m) n gives c.args.at l c.args.sym.now c.end_loop.new.sym) (sym c.requires.judging) (loop_does p I n gives c.args.at l ready c.start_loop-kept.ensures.became c.in_ok-head.ensures done c.in_ok-test_all.ensures ended last)
 
 -- ---- a loop in the mode of runs that seek
 -- open: the arms of `last_test`, by the equations of `turn` above, and the names of goals past an early return
@@ -1861,7 +1874,7 @@ loops::turns-end-requires-clause-room t c =
     let gives = c.args.gives in
     let l = loop_of (form_view c.args.f.now) in
     let none : c.args.left ≡ 0 = search rules in
-    last_room p W n gives c.args.at (subst (λ r. TurnsReady p W n gives r c.args.at c.args.sym.now l) none c.requires.ready) c.in_ok-last_test.ensures
+    last_test_room p W n gives c.args.at (subst (λ r. TurnsReady p W n gives r c.args.at c.args.sym.now l) none c.requires.ready) c.in_ok-last_test.ensures
 
 pub loops::turns-returns-then-not-left : goal.loops::turns-returns-then-not-left
 loops::turns-returns-then-not-left t c =
@@ -1917,10 +1930,10 @@ loops::all_turns-turns-requires t c =
     let l = loop_of (form_view c.args.f.now) in
     let ss = segments_of c.args.mode in
     let k = c.args.mode.turns in
-    let ready = subst (λ m. LoopReady p (mode_by w m) n gives c.args.at c.args.sym.now l) c.requires.is c.requires.ready in
-    let within = subst (λ m. turn_glue * k + weight_of_turns p (mode_by w m) n gives k c.args.at l ≤ weight_of_loop p (mode_by w m) n gives c.args.at l) (sym c.requires.is) (turns_within p ss k n gives c.args.at l) in (
+    let ready = subst (λ m. LoopReady p (mode_by w m) n gives c.args.at c.args.sym.now l) c.requires.judging c.requires.ready in
+    let within = subst (λ m. turn_glue * k + weight_of_turns p (mode_by w m) n gives k c.args.at l ≤ weight_of_loop p (mode_by w m) n gives c.args.at l) (sym c.requires.judging) (turns_within p ss k n gives c.args.at l) in (
       omega (arith, c.decreases, within),
-      (c.requires.walk, subst (λ m. TurnsReady p (mode_by w m) n gives k c.args.at c.start_loop.new.sym l) (sym c.requires.is) (all_ready p ss k n gives c.args.at l ready c.start_loop-kept.ensures.became)),
+      (c.requires.walk, subst (λ m. TurnsReady p (mode_by w m) n gives k c.args.at c.start_loop.new.sym l) (sym c.requires.judging) (all_ready p ss k n gives c.args.at l ready c.start_loop-kept.ensures.became)),
     )
 
 pub loops::all_turns-end_loop-requires-clause-fits : goal.loops::all_turns-end_loop-requires-clause-fits
@@ -1936,7 +1949,7 @@ loops::all_turns-end_loop-requires-clause-kept_in t c =
     let l = loop_of (form_view c.args.f.now) in
     let ss = segments_of c.args.mode in
     let k = c.args.mode.turns in
-    let ready = subst (λ m. LoopReady p (mode_by w m) n gives c.args.at c.args.sym.now l) c.requires.is c.requires.ready in
+    let ready = subst (λ m. LoopReady p (mode_by w m) n gives c.args.at c.args.sym.now l) c.requires.judging c.requires.ready in
     stays_in p (mode_of w) n gives c.start_loop-kept.result c.args.sym.now.broken c.start_loop-kept.ensures.kept ready.fits.broken c.start_loop-kept.ensures.became c.in_ok-turns.ensures
 
 pub loops::all_turns-end_loop-requires-clause-room : goal.loops::all_turns-end_loop-requires-clause-room
@@ -1948,7 +1961,7 @@ loops::all_turns-end_loop-requires-clause-room t c =
     let l = loop_of (form_view c.args.f.now) in
     let ss = segments_of c.args.mode in
     let k = c.args.mode.turns in
-    let ready = subst (λ m. LoopReady p (mode_by w m) n gives c.args.at c.args.sym.now l) c.requires.is c.requires.ready in
+    let ready = subst (λ m. LoopReady p (mode_by w m) n gives c.args.at c.args.sym.now l) c.requires.judging c.requires.ready in
     ?
 
 pub loops::all_turns-returns : goal.loops::all_turns-returns
@@ -1960,10 +1973,10 @@ loops::all_turns-returns t c =
     let l = loop_of (form_view c.args.f.now) in
     let ss = segments_of c.args.mode in
     let k = c.args.mode.turns in
-    let ready = subst (λ m. LoopReady p (mode_by w m) n gives c.args.at c.args.sym.now l) c.requires.is c.requires.ready in
+    let ready = subst (λ m. LoopReady p (mode_by w m) n gives c.args.at c.args.sym.now l) c.requires.judging c.requires.ready in
     let count : vec_len c.args.sym.now.cells ≡ length c.args.sym.now.cells.items = search rules in
-    let done = subst (λ m. TurnsDo p (mode_by w m) n gives k c.args.at l c.start_loop.new.sym c.turns.new.sym) c.requires.is c.in_ok-turns.ensures in
-    subst (λ m. LoopDoes p (mode_by w m) n gives c.args.at l c.args.sym.now c.end_loop.new.sym) (sym c.requires.is)
+    let done = subst (λ m. TurnsDo p (mode_by w m) n gives k c.args.at l c.start_loop.new.sym c.turns.new.sym) c.requires.judging c.in_ok-turns.ensures in
+    subst (λ m. LoopDoes p (mode_by w m) n gives c.args.at l c.args.sym.now c.end_loop.new.sym) (sym c.requires.judging)
     (all_done p ss k n gives c.args.at l c.start_loop-kept.result c.len-cells.result ready c.start_loop-kept.ensures.kept (c.len-cells.ensures ∙ count) c.start_loop-kept.ensures.became done c.in_ok-end_loop.ensures)
 
 -- ---- a loop, as its mode does it
@@ -1974,7 +1987,6 @@ loops::loop_scope-one_turn-requires-in-Obliges t c =
 pub loops::loop_scope-all_turns-requires-in-Seeks : goal.loops::loop_scope-all_turns-requires-in-Seeks
 loops::loop_scope-all_turns-requires-in-Seeks t c =
     (omega (arith, c.decreases), (c.requires.walk, c.in-Seeks.is, c.requires.ready))
-
 
 pub loops::for_scope-first-requires : goal.loops::for_scope-first-requires
 loops::for_scope-first-requires t c =
@@ -2177,7 +2189,6 @@ calls::run_function-returns t c =
     subst (λ z. Sets (program_of w) z c.args.arguments.now c.enter.new.sym c.set_parameters.new.sym) c.as_slice.ensures c.in_ok-set_parameters.ensures in
     function_run (program_of w) (mode_of w) c.args.depth c.args.close c.args.needed f.result f.params f.body.spot (form_view f.body.form) c.args.arguments.now c.type_or_int-ty.result c.requires.ready c.in_ok-caller.ensures.enters c.type_or_int-ty.ensures y c.in_ok-form.ensures c.in_ok-caller.caller c.len-cells.result c.in_ok-back.ensures c.in_ok-tell_return.ensures c.in_ok-caller.ensures.around (omega (arith, c.len-cells.ensures, c.args.sym.now.cells.ok.0)) c.in_ok-need.ensures
 
-
 pub calls::call_found-run_function-requires : goal.calls::call_found-run_function-requires
 calls::call_found-run_function-requires t c =
     let w = c.args.walk.now in (
@@ -2342,7 +2353,6 @@ switches::chosen-returns t c =
     let ev : Turned p (length ls + W.scale.test c.args.at) 0 c.case_bits.new.sym c.tell_choice.new.sym (λ v. telling W (Branch c.args.at (way_for (typed p.model (promote_of (type_of e)) v c.case_bits.new.sym.net c.in_ok-y.y.bits) ls))) = ? in
     chosen_chooses p W c.args.depth c.args.at e ls c.requires.ready c.in_ok-x.ensures y z (length ls) refl ev (length c.args.arms.now) (sym (labels_many c.args.arms.now))
     (c.in_ok-bits.ensures (λ v. typed p.model (promote_of (type_of e)) v c.convert.new.sym.net c.in_ok-y.y.bits) (λ v. ap (map (holds v c.tell_choice.new.sym.net)) c.deref.ensures.value ∙ cases_still p W c.args.depth c.args.at e ls c.requires.ready c.in_ok-x.ensures y z (length ls) refl ev v))
-
 
 pub switches::one_arm-narrow-requires-clause-fits : goal.switches::one_arm-narrow-requires-clause-fits
 switches::one_arm-narrow-requires-clause-fits t c = c.requires.ready.fits
