@@ -83,7 +83,7 @@ module _ {i j : ℕ} {old new : List NetNode} (g : Added i j old new) where
   counts_added : {bs : List Bit} {n : ℕ} {f : (ℕ → Bool) → ℕ} → Counts old bs n f → Counts new bs n f
   counts_added {bs} h = record { inside = all_added bs h.inside; wide = h.wide; is = λ v. number_added v bs h.inside ∙ h.is v }
 
-  pub all_held : (v : ℕ → Bool) (bs : List Bit) → AreIn old bs → map (holds v new) bs ≡ map (holds v old) bs
+  all_held : (v : ℕ → Bool) (bs : List Bit) → AreIn old bs → map (holds v new) bs ≡ map (holds v old) bs
   all_held v [] h = refl
   all_held v (b ∷ bs) h = ap₂ (λ x y. x ∷ y) (holds_added v b (All-head (λ b. IsIn old b) b bs h)) (all_held v bs (All-tail (λ b. IsIn old b) b bs h))
 

@@ -33,7 +33,8 @@ use Rattle.sym_state.specs.declared.state.Sym.{Sym}
 use Rattle.sym_state.specs.declared.state.Around.{Around}
 use Rattle.sym_state.specs.Standing.{Stand, IsState, Turned}
 use Rattle.sym_state.specs.Telling.{telling}
-use Rattle.sym_state.proofs.Nets.{typed_added, are_typed_added, all_added, all_held}
+use Rattle.sym_choices.proofs.Held.{all_held}
+use Rattle.sym_state.proofs.Nets.{typed_added, are_typed_added, all_added}
 use Rattle.sym_state.proofs.Telling.{told_as, told_follows, untold_turned}
 use Rattle.sym_state.proofs.Turning.{turned_then}
 use Rattle.sym_values.specs.Valuing.{IsDutyAt, CountsWhere, Decided}
