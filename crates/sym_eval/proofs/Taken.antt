@@ -1,6 +1,8 @@
 -- The turns of a loop, one after another, up to a bound.
-use Rattle.std.proofs.Common.{◌≡◌, ℕ, zero, suc, ◌+◌, ◌*◌, ◌≤◌, ◌<◌, ◌^◌, true, false, List, length, refl, sym, ◌∙◌, ap, ap₂, arith, Option, Some, None, IsTrue, is_some}
-use Rattle.c_core.specs.Tree.{Program}
+use Rattle.std.proofs.Common.{◌≡◌, ℕ, zero, suc, ◌+◌, ◌*◌, ◌≤◌, ◌<◌, ◌^◌, true, false, ◌&&◌, List, length, refl, sym, ◌∙◌, ap, ap₂, arith, Option, Some, None, IsTrue, is_some}
+use Rattle.c_core.specs.Tree.{Program, Exp, Stm}
+use Rattle.c_core.specs.Parts.{every_statement}
+use Rattle.c_core.specs.Typing.{is_typed, has_value, statement_fits}
 use Rattle.c_core.specs.declared.number.IntType.{IntType}
 use Rattle.c_core.specs.declared.number.Spot.{Spot}
 use Rattle.c_meaning.specs.Acts.{Res, Go, Stop, Flow, Next, Broken, Again, Gave, bind, go_on, cut}
@@ -8,7 +10,7 @@ use Rattle.c_meaning.specs.Acts as acts
 use Rattle.c_meaning.specs.Exec.{exec, full_if, turn}
 use Rattle.c_meaning.specs.Havoc.{Stopped, Passes}
 use Rattle.c_meaning.specs.Meaning.{Loop, WhileLoop, DoLoop, ForLoop}
-use Rattle.c_meaning.proofs.TypeFacts.{neither}
+use Rattle.c_meaning.proofs.TypeFacts.{both, neither}
 use Rattle.circuits.specs.declared.net.Bit.{Bit}
 use Rattle.circuits.specs.Net.{holds}
 use Rattle.seek_mode.specs.SeekingMode as seeking
@@ -17,15 +19,16 @@ use Rattle.sym_flow.specs.Leaving.{Runs}
 use Rattle.sym_flow.specs.Ways.{Became, fresh_broken, behind_loop}
 use Rattle.sym_flow.proofs.Bodies.{out_of_loop, broken_runs}
 use Rattle.sym_flow.proofs.Looping.{stops_runs}
-use Rattle.sym_flow.proofs.Statements.{runs_then, runs_as}
+use Rattle.sym_flow.proofs.Statements.{runs_then, runs_as, skip_runs}
 use Rattle.sym_meaning.specs.Mode.{JudgedState, cells_judged, with_cells_judged, Mode, Turn}
 use Rattle.sym_meaning.specs.Judged.{judged, stop, body_of}
 use Rattle.sym_scale.specs.Cost.{nodes, bits}
 use Rattle.sym_state.specs.declared.state.Sym.{Sym}
-use Rattle.sym_state.specs.Standing.{stand}
+use Rattle.sym_state.specs.Standing.{stand, IsState}
 use Rattle.sym_state.proofs.Nets.{longer_by}
 use Rattle.sym_values.specs.Storing.{Ends, end_of}
 use Rattle.way_match.specs.Points.{BoundSegment}
+use Rattle.sym_eval.specs.Control.{is_test, is_typed_if, TestReady, TestIfReady}
 use Rattle.sym_eval.specs.Doing.{calls}
 use Rattle.sym_eval.specs.Looping.{turn_glue, last_glue, test_part, rest_part, turns_parts, turned, TurnReady, TurnDoes, open_turns, weight_of_turns, bits_of_turns, TurnsReady, TurnsDo, last_tested, LastDoes, weight_of_loop, LoopReady, LoopDoes}
 use Rattle.sym_eval.proofs.Turns.{control_then, going_then, became_as, kept_holds}
@@ -72,6 +75,21 @@ module _ (p : Program) (W : Mode) (n : ℕ) (gives : Option IntType) (at : Spot)
   pub last_test_room : {a b : Sym} {l : Option Loop} → TurnsReady p W n gives 0 at a l → LastDoes p W n gives at l a b → length b.net < 2 ^ 27
   last_test_room h x = omega (arith, h.room, (longer_by x.added).1)
 
+  pub while_last : {a : Sym} {e : Exp} {x : Stm} → TurnsReady p W n gives 0 at a (Some (WhileLoop e x)) → TestReady p W n at a e
+  while_last {e = e} {x = x} h =
+      let t = both (is_test p (Some e)) (every_statement (statement_fits p gives) x) h.types in
+      let q = both (has_value e) (is_typed p e) t.0 in
+      record { fits = h.fits; types = q.1; value = q.0; room = omega (arith, h.room) }
+
+  pub for_last : {a : Sym} {e s : Option Exp} {x : Stm} → TurnsReady p W n gives 0 at a (Some (ForLoop e s x)) → TestIfReady p W n at a e
+  for_last {e = e} {s = s} {x = x} h = record { fits = h.fits; types = (both (is_test p e) (is_typed_if p s && every_statement (statement_fits p gives) x) h.types).0; room = omega (arith, h.room) }
+
+  pub do_last : {a : Sym} {e : Exp} {x : Stm} → IsState p a → LastDoes p W n gives at (Some (DoLoop x e)) a a
+  do_last {a} h = runs_as p W.duties gives (skip_runs p W.duties gives a h) (λ v s. refl) (omega arith) (omega arith)
+
+  pub none_last : {a : Sym} → IsState p a → LastDoes p W n gives at None a a
+  none_last {a} h = runs_as p W.duties gives (skip_runs p W.duties gives a h) (λ v s. refl) (omega arith) (omega arith)
+
   last_same : (l : Option Loop) → IsTrue (is_some l) → (s : JudgedState) → bind (last_tested p W n gives at l s) (go_on (stop Passes)) ≡ bind (turned p W n gives false at l s) (go_on (stop Passes))
   last_same None h s = refl
   last_same (Some (WhileLoop e b)) h s =
@@ -108,6 +126,9 @@ module _ (p : Program) (ss : List BoundSegment) (k n : ℕ) (gives : Option IntT
   open_loop : (l : Loop) (r : ℕ) (s : JudgedState) → bind (open_turns p W n gives r at (Some l) s) (λ f t. Go (out_of_loop f) t) ≡ seeking.turns r (turn p (judged p W) (calls p W n) gives at l) s
   open_loop l zero s = after_turn (turn p (judged p W) (calls p W n) gives at l false s) (stop Passes) (stop Passes) (λ s. refl)
   open_loop l (suc r) s = after_turn (turn p (judged p W) (calls p W n) gives at l true s) (open_turns p W n gives r at (Some l)) (seeking.turns r (turn p (judged p W) (calls p W n) gives at l)) (open_loop l r)
+
+  pub all_room : {a b c : Sym} (l : Option Loop) → LoopReady p W n gives at a l → Became p 0 a b (λ v. fresh_broken) → TurnsDo p W n gives k at l b c → length c.net < 2 ^ 27
+  all_room l h x y = omega (arith, h.room, (longer_by x.added).1, (longer_by y.added).1, turns_within l, turns_bits k (test_part p (bits p W.scale n) gives at l) (rest_part p (bits p W.scale n) gives at l))
 
   pub all_do : {a b c d : Sym} (l : Loop) (kept : Bit) (cells : ℕ) → LoopReady p W n gives at a (Some l) → kept ≡ a.broken → cells ≡ length a.cells.items → Became p 0 a b (λ v. fresh_broken) → TurnsDo p W n gives k at (Some l) b c
       → Became p 1 c d (λ v. behind_loop (holds v c.net kept) cells) → LoopDoes p W n gives at (Some l) a d

@@ -229,6 +229,7 @@ fn last_test(
             test_turn(walk, sym, depth, at, test)?;
             Ok(())
         }
+        Form::Do { .. } => Ok(()),
         Form::For { test, .. } => {
             test_turn_if(walk, sym, depth, at, test)?;
             Ok(())

@@ -11,10 +11,10 @@ use Rattle.c_core.proofs.View.{view_of_index, view_of_call, view_of_block, view_
 use Rattle.c_core.specs.Types.{is_zero}
 use Rattle.c_meaning.specs.declared.run.Event.TheVariants.{Branch}
 use Rattle.c_meaning.specs.declared.run.Way.TheVariants.{Truth}
-use Rattle.c_meaning.specs.Run.{way_for}
+use Rattle.c_meaning.specs.Run.{is_case, way_for}
 use Rattle.c_meaning.specs.Meaning.{Used, Unused, WhileLoop, DoLoop, ForLoop}
 use Rattle.c_meaning.specs.Objects.{type_of}
-use Rattle.sym_state.proofs.Nets.{unchanged, added_of, in_added, longer_by, state_grown}
+use Rattle.sym_state.proofs.Nets.{unchanged, added_of, in_added, longer_by, state_grown, typed_added, are_typed_added}
 use Rattle.sym_exprs.specs.Evaluating.{use_of, weight_of, Ready, Values}
 use Rattle.sym_exprs.specs.Targeting.{weight_of_target, TargetReady}
 use Rattle.sym_exprs.proofs.Typed.{unary_parts, cast_parts, binary_parts, comma_parts, logic_parts, choose_parts, assign_parts, step_parts, exit_counts}
@@ -35,7 +35,7 @@ use Rattle.circuits.specs.Net.{IsIn, opposite, holds}
 use Rattle.sym_weight.specs.Views.{else_of}
 use Rattle.sym_eval.proofs.Choices.{choose_runs}
 use Rattle.sym_eval.specs.Control.{weight_of_test, weight_of_step, TestIfReady, TestIfDoes, StepReady, StepDoes}
-use Rattle.sym_eval.specs.Looping.{turn_glue, weight_of_turn, TurnReady, TurnDoes, weight_of_turns, TurnsReady, TurnsDo, weight_of_loop, LoopReady, ForReady, ForDoes, LoopDoes}
+use Rattle.sym_eval.specs.Looping.{turn_glue, weight_of_turn, TurnReady, TurnDoes, weight_of_turns, TurnsReady, TurnsDo, LastDoes, weight_of_loop, LoopReady, ForReady, ForDoes, LoopDoes}
 use Rattle.sym_eval.proofs.Deciding.{full_ready, full_gives, control_ready, control_room, control_bits, decides, test_ready, test_does, some_test_ready, no_test, some_step_ready, no_step, some_step}
 use Rattle.sym_eval.proofs.Loopless.{no_loop}
 use Rattle.sym_eval.proofs.Turns.{stays_in, body_starts, body_ends, body_does, while_tests, while_goes_on, while_does, do_starts, do_tests, do_does, for_tests, for_goes_on, for_steps, for_turn_does, no_turn, turn_within, head_room, turn_starts, head_room_again, outer_kept, loop_ends, loop_does, for_starts, for_arrives, for_does, for_ready, for_form, loop_ready, while_form, do_form, loop_within, for_within}
@@ -50,7 +50,7 @@ use Rattle.circuits.specs.Numbers.{typed, AreIn}
 use Rattle.sym_choices.specs.Cases.{AreCases, cases_cost}
 use Rattle.sym_eval.specs.Switching.{ArmsDo, ArmReady, ArmDoes, ArmsReady}
 use Rattle.std.specs.List.{list_all}
-use Rattle.sym_eval.proofs.Switchable.{labels_many, chosen_by_ready, chosen_by_in, chosen_by_room, promoted_as, cases_room, entries_room, cases_many, cases_then, cases_still, chosen_chooses, arm_room, arm_starts, arm_still, arm_room_again, arm_last_in, arm_last_room, arm_does, arms_none, arms_part, arms_next, arms_on, switch_chooses, arms_start, switch_kept_in, switch_room, switch_does}
+use Rattle.sym_eval.proofs.Switchable.{labels_many, chosen_by_ready, chosen_by_in, chosen_by_room, promoted_as, cases_room, told_room, entries_room, cases_many, cases_then, cases_still, chosen_chooses, arm_room, arm_starts, arm_still, arm_room_again, arm_last_in, arm_last_room, arm_does, arms_none, arms_part, arms_next, arms_on, switch_chooses, arms_start, switch_kept_in, switch_room, switch_does}
 use Rattle.c_core.specs.declared.number.IntType.TheVariants.{Bool as BoolType}
 use Rattle.c_core.specs.Types.{width_of}
 use Rattle.c_meaning.specs.Placing.{placed_view}
@@ -63,7 +63,7 @@ use Rattle.sym_state.specs.Telling.{telling}
 use Rattle.sym_walk.specs.Walking.{segments_of, mode_by, IsJudging}
 use Rattle.sym_walk.specs.declared.walk.Judging.TheVariants.{Obliges, Seeks}
 use Rattle.sym_weight.specs.Table.{params_of}
-use Rattle.sym_eval.proofs.Taken.{turn_first, turns_next, turns_more, last_test_room, turns_end, all_ready, turns_within, all_done}
+use Rattle.sym_eval.proofs.Taken.{turn_first, turns_next, turns_more, last_test_room, turns_end, while_last, for_last, do_last, none_last, all_ready, all_room, turns_within, all_done}
 use Rattle.sym_eval.proofs.+walk.Goals as goal
 
 pub expressions::eval-constant-requires-clause-ready : goal.expressions::eval-constant-requires-clause-ready
@@ -1829,26 +1829,66 @@ loops::one_turn-returns t c =
     subst (λ m. LoopDoes p (mode_by w m) n gives c.args.at l c.args.sym.now c.end_loop.new.sym) (sym c.requires.judging) (loop_does p I n gives c.args.at l ready c.start_loop-kept.ensures.became c.in_ok-head.ensures done c.in_ok-test_all.ensures ended last)
 
 -- ---- a loop in the mode of runs that seek
--- open: the arms of `last_test`, by the equations of `turn` above, and the names of goals past an early return
+-- open: the names of goals past the early return of `turns`
 pub loops::last_test-test_turn-requires : goal.loops::last_test-test_turn-requires
 loops::last_test-test_turn-requires t c =
-    ?
+    let w = c.args.walk.now in
+    let p = program_of w in
+    let W = mode_of w in
+    let n = c.args.depth in
+    let gives = c.args.gives in
+    let e = ap (λ f. loop_of (form_view f)) c.in-While.is in
+    (omega (arith, c.decreases, ap (weight_of_turns p W n gives 0 c.args.at) e), (c.requires.walk, while_last p W n gives c.args.at (subst (TurnsReady p W n gives 0 c.args.at c.args.sym.now) e c.requires.ready)))
 
 pub loops::last_test-returns-in_ok-test_turn-in-While : goal.loops::last_test-returns-in_ok-test_turn-in-While
 loops::last_test-returns-in_ok-test_turn-in-While t c =
-    ?
+    let w = c.args.walk.now in
+    let p = program_of w in
+    let W = mode_of w in
+    let n = c.args.depth in
+    let gives = c.args.gives in
+    let e = ap (λ f. loop_of (form_view f)) c.in-While.is in
+    subst (λ l. LastDoes p W n gives c.args.at l c.args.sym.now c.test_turn.new.sym) (sym e) (c.in_ok-test_turn-in-While.ensures gives)
 
 pub loops::last_test-test_turn_if-requires : goal.loops::last_test-test_turn_if-requires
 loops::last_test-test_turn_if-requires t c =
-    ?
+    let w = c.args.walk.now in
+    let p = program_of w in
+    let W = mode_of w in
+    let n = c.args.depth in
+    let gives = c.args.gives in
+    let e = ap (λ f. loop_of (form_view f)) c.in-For.is in
+    (omega (arith, c.decreases, ap (weight_of_turns p W n gives 0 c.args.at) e), (c.requires.walk, for_last p W n gives c.args.at (subst (TurnsReady p W n gives 0 c.args.at c.args.sym.now) e c.requires.ready)))
 
 pub loops::last_test-returns-in_ok-test_turn_if-in-For : goal.loops::last_test-returns-in_ok-test_turn_if-in-For
 loops::last_test-returns-in_ok-test_turn_if-in-For t c =
-    ?
+    let w = c.args.walk.now in
+    let p = program_of w in
+    let W = mode_of w in
+    let n = c.args.depth in
+    let gives = c.args.gives in
+    let e = ap (λ f. loop_of (form_view f)) c.in-For.is in
+    subst (λ l. LastDoes p W n gives c.args.at l c.args.sym.now c.test_turn_if.new.sym) (sym e) (c.in_ok-test_turn_if-in-For.ensures gives)
+
+pub loops::last_test-returns-in-Do : goal.loops::last_test-returns-in-Do
+loops::last_test-returns-in-Do t c =
+    let w = c.args.walk.now in
+    let p = program_of w in
+    let W = mode_of w in
+    let n = c.args.depth in
+    let gives = c.args.gives in
+    let e = ap (λ f. loop_of (form_view f)) c.in-Do.is in
+    subst (λ l. LastDoes p W n gives c.args.at l c.args.sym.now c.args.sym.now) (sym e) (do_last p W n gives c.args.at c.requires.ready.fits)
 
 pub loops::last_test-returns-in_default : goal.loops::last_test-returns-in_default
 loops::last_test-returns-in_default t c =
-    ?
+    let w = c.args.walk.now in
+    let p = program_of w in
+    let W = mode_of w in
+    let n = c.args.depth in
+    let gives = c.args.gives in
+    let none : loop_of (form_view c.args.f.now) ≡ None = no_loop c.args.f.now c.in_default.not-While c.in_default.not-Do c.in_default.not-For in
+    subst (λ l. LastDoes p W n gives c.args.at l c.args.sym.now c.args.sym.now) (sym none) (none_last p W n gives c.args.at c.requires.ready.fits)
 
 pub loops::turns-last_test-requires : goal.loops::turns-last_test-requires
 loops::turns-last_test-requires t c =
@@ -1962,7 +2002,9 @@ loops::all_turns-end_loop-requires-clause-room t c =
     let ss = segments_of c.args.mode in
     let k = c.args.mode.turns in
     let ready = subst (λ m. LoopReady p (mode_by w m) n gives c.args.at c.args.sym.now l) c.requires.judging c.requires.ready in
-    ?
+    let done = subst (λ m. TurnsDo p (mode_by w m) n gives k c.args.at l c.start_loop.new.sym c.turns.new.sym) c.requires.judging c.in_ok-turns.ensures in
+    let room = all_room p ss k n gives c.args.at l ready c.start_loop-kept.ensures.became done in
+    omega (arith, room)
 
 pub loops::all_turns-returns : goal.loops::all_turns-returns
 loops::all_turns-returns t c =
@@ -2281,26 +2323,36 @@ switches::chosen-case_bits-requires-clause-room t c =
     subst (λ k. length c.convert.new.sym.net + cases_cost p.model k ls < 2 ^ 28) (sym (c.promote-ty.ensures ∙ ap promote_of c.type_of-from.ensures))
     (cases_room p W c.args.depth c.args.at e ls c.requires.ready c.in_ok-x.ensures y)
 
--- open: the goals of `tell_choice`, and its event by the promoted type
 pub switches::chosen-tell_choice-requires-clause-fits : goal.switches::chosen-tell_choice-requires-clause-fits
 switches::chosen-tell_choice-requires-clause-fits t c =
     c.in_ok-cases.ensures.turned.fits
 
 pub switches::chosen-tell_choice-requires-clause-value_in : goal.switches::chosen-tell_choice-requires-clause-value_in
 switches::chosen-tell_choice-requires-clause-value_in t c =
-    ?
+    are_typed_added c.in_ok-cases.ensures.turned.added c.in_ok-y.ensures.bits_in
 
 pub switches::chosen-tell_choice-requires-clause-cases_in : goal.switches::chosen-tell_choice-requires-clause-cases_in
 switches::chosen-tell_choice-requires-clause-cases_in t c =
-    ?
+    subst (λ cs. AreIn c.case_bits.new.sym.net cs) (sym c.deref.ensures.value) c.in_ok-cases.ensures.inside
 
 pub switches::chosen-tell_choice-requires-clause-are_cases : goal.switches::chosen-tell_choice-requires-clause-are_cases
 switches::chosen-tell_choice-requires-clause-are_cases t c =
-    ?
+    let p = program_of c.args.walk.now in
+    let ls = labels_in (switch_view c.args.arms.now) in
+    λ v. ap (map (holds v c.case_bits.new.sym.net)) c.deref.ensures.value ∙ c.in_ok-cases.ensures.are v
+    ∙ ap (λ z. map (is_case z) ls) (sym (typed_added c.in_ok-cases.ensures.turned.added p.model c.promote-ty.result v c.in_ok-y.y.bits c.in_ok-y.ensures.bits_in))
 
 pub switches::chosen-tell_choice-requires-clause-room : goal.switches::chosen-tell_choice-requires-clause-room
 switches::chosen-tell_choice-requires-clause-room t c =
-    ?
+    let p = program_of c.args.walk.now in
+    let W = mode_of c.args.walk.now in
+    let e = expr_view c.args.test.now in
+    let ls = labels_in (switch_view c.args.arms.now) in
+    let kind = c.promote-ty.ensures ∙ ap promote_of c.type_of-from.ensures in
+    let y = promoted_as p W c.args.depth c.args.at e ls c.requires.ready c.in_ok-x.ensures c.type_of-from.result c.promote-ty.result c.type_of-from.ensures c.promote-ty.ensures c.in_ok-y.ensures in
+    let z = subst (λ k. AreCases p k c.in_ok-y.y.bits ls c.convert.new.sym c.case_bits.new.sym c.in_ok-cases.cases.items) kind c.in_ok-cases.ensures in
+    let many = ap length c.deref.ensures.value ∙ cases_many p W c.args.depth c.args.at e ls c.requires.ready c.in_ok-x.ensures y z in
+    told_room p W c.args.depth c.args.at e ls c.requires.ready c.in_ok-x.ensures y z (length c.deref.result.now) many
 
 pub switches::chosen-enter_arms-requires-clause-fits : goal.switches::chosen-enter_arms-requires-clause-fits
 switches::chosen-enter_arms-requires-clause-fits t c =
@@ -2315,7 +2367,7 @@ switches::chosen-enter_arms-requires-clause-many t c =
     let kind = c.promote-ty.ensures ∙ ap promote_of c.type_of-from.ensures in
     let y = promoted_as p W c.args.depth c.args.at e ls c.requires.ready c.in_ok-x.ensures c.type_of-from.result c.promote-ty.result c.type_of-from.ensures c.promote-ty.ensures c.in_ok-y.ensures in
     let z = subst (λ k. AreCases p k c.in_ok-y.y.bits ls c.convert.new.sym c.case_bits.new.sym c.in_ok-cases.cases.items) kind c.in_ok-cases.ensures in
-    ap length c.deref.ensures.value ∙ cases_many p W c.args.depth c.args.at e ls c.requires.ready c.in_ok-x.ensures y z ∙ labels_many c.args.arms.now
+    ap length c.deref-2.ensures.value ∙ cases_many p W c.args.depth c.args.at e ls c.requires.ready c.in_ok-x.ensures y z ∙ labels_many c.args.arms.now
 
 pub switches::chosen-enter_arms-requires-clause-cases_in : goal.switches::chosen-enter_arms-requires-clause-cases_in
 switches::chosen-enter_arms-requires-clause-cases_in t c =
@@ -2326,8 +2378,9 @@ switches::chosen-enter_arms-requires-clause-cases_in t c =
     let kind = c.promote-ty.ensures ∙ ap promote_of c.type_of-from.ensures in
     let y = promoted_as p W c.args.depth c.args.at e ls c.requires.ready c.in_ok-x.ensures c.type_of-from.result c.promote-ty.result c.type_of-from.ensures c.promote-ty.ensures c.in_ok-y.ensures in
     let z = subst (λ k. AreCases p k c.in_ok-y.y.bits ls c.convert.new.sym c.case_bits.new.sym c.in_ok-cases.cases.items) kind c.in_ok-cases.ensures in
-    let ev : Turned p (length ls + W.scale.test c.args.at) 0 c.case_bits.new.sym c.tell_choice.new.sym (λ v. telling W (Branch c.args.at (way_for (typed p.model (promote_of (type_of e)) v c.case_bits.new.sym.net c.in_ok-y.y.bits) ls))) = ? in
-    subst (λ cs. AreIn c.tell_choice.new.sym.net cs) (sym c.deref.ensures.value) (cases_then p W c.args.depth c.args.at e ls c.requires.ready c.in_ok-x.ensures y z (length ls) refl ev)
+    let many = ap length c.deref.ensures.value ∙ cases_many p W c.args.depth c.args.at e ls c.requires.ready c.in_ok-x.ensures y z in
+    let ev = subst (λ k. Turned p (length c.deref.result.now + W.scale.test c.args.at) 0 c.case_bits.new.sym c.tell_choice.new.sym (λ v. telling W (Branch c.args.at (way_for (typed p.model k v c.case_bits.new.sym.net c.in_ok-y.y.bits) ls)))) kind c.in_ok-tell_choice.ensures in
+    subst (λ cs. AreIn c.tell_choice.new.sym.net cs) (sym c.deref-2.ensures.value) (cases_then p W c.args.depth c.args.at e ls c.requires.ready c.in_ok-x.ensures y z (length c.deref.result.now) many ev)
 
 pub switches::chosen-enter_arms-requires-clause-room : goal.switches::chosen-enter_arms-requires-clause-room
 switches::chosen-enter_arms-requires-clause-room t c =
@@ -2338,8 +2391,9 @@ switches::chosen-enter_arms-requires-clause-room t c =
     let kind = c.promote-ty.ensures ∙ ap promote_of c.type_of-from.ensures in
     let y = promoted_as p W c.args.depth c.args.at e ls c.requires.ready c.in_ok-x.ensures c.type_of-from.result c.promote-ty.result c.type_of-from.ensures c.promote-ty.ensures c.in_ok-y.ensures in
     let z = subst (λ k. AreCases p k c.in_ok-y.y.bits ls c.convert.new.sym c.case_bits.new.sym c.in_ok-cases.cases.items) kind c.in_ok-cases.ensures in
-    let ev : Turned p (length ls + W.scale.test c.args.at) 0 c.case_bits.new.sym c.tell_choice.new.sym (λ v. telling W (Branch c.args.at (way_for (typed p.model (promote_of (type_of e)) v c.case_bits.new.sym.net c.in_ok-y.y.bits) ls))) = ? in
-    entries_room p W c.args.depth c.args.at e ls c.requires.ready c.in_ok-x.ensures y z (length ls) refl ev (length c.args.arms.now) (sym (labels_many c.args.arms.now))
+    let many = ap length c.deref.ensures.value ∙ cases_many p W c.args.depth c.args.at e ls c.requires.ready c.in_ok-x.ensures y z in
+    let ev = subst (λ k. Turned p (length c.deref.result.now + W.scale.test c.args.at) 0 c.case_bits.new.sym c.tell_choice.new.sym (λ v. telling W (Branch c.args.at (way_for (typed p.model k v c.case_bits.new.sym.net c.in_ok-y.y.bits) ls)))) kind c.in_ok-tell_choice.ensures in
+    entries_room p W c.args.depth c.args.at e ls c.requires.ready c.in_ok-x.ensures y z (length c.deref.result.now) many ev (length c.args.arms.now) (sym (labels_many c.args.arms.now))
 
 pub switches::chosen-returns : goal.switches::chosen-returns
 switches::chosen-returns t c =
@@ -2350,9 +2404,10 @@ switches::chosen-returns t c =
     let kind = c.promote-ty.ensures ∙ ap promote_of c.type_of-from.ensures in
     let y = promoted_as p W c.args.depth c.args.at e ls c.requires.ready c.in_ok-x.ensures c.type_of-from.result c.promote-ty.result c.type_of-from.ensures c.promote-ty.ensures c.in_ok-y.ensures in
     let z = subst (λ k. AreCases p k c.in_ok-y.y.bits ls c.convert.new.sym c.case_bits.new.sym c.in_ok-cases.cases.items) kind c.in_ok-cases.ensures in
-    let ev : Turned p (length ls + W.scale.test c.args.at) 0 c.case_bits.new.sym c.tell_choice.new.sym (λ v. telling W (Branch c.args.at (way_for (typed p.model (promote_of (type_of e)) v c.case_bits.new.sym.net c.in_ok-y.y.bits) ls))) = ? in
-    chosen_chooses p W c.args.depth c.args.at e ls c.requires.ready c.in_ok-x.ensures y z (length ls) refl ev (length c.args.arms.now) (sym (labels_many c.args.arms.now))
-    (c.in_ok-bits.ensures (λ v. typed p.model (promote_of (type_of e)) v c.convert.new.sym.net c.in_ok-y.y.bits) (λ v. ap (map (holds v c.tell_choice.new.sym.net)) c.deref.ensures.value ∙ cases_still p W c.args.depth c.args.at e ls c.requires.ready c.in_ok-x.ensures y z (length ls) refl ev v))
+    let many = ap length c.deref.ensures.value ∙ cases_many p W c.args.depth c.args.at e ls c.requires.ready c.in_ok-x.ensures y z in
+    let ev = subst (λ k. Turned p (length c.deref.result.now + W.scale.test c.args.at) 0 c.case_bits.new.sym c.tell_choice.new.sym (λ v. telling W (Branch c.args.at (way_for (typed p.model k v c.case_bits.new.sym.net c.in_ok-y.y.bits) ls)))) kind c.in_ok-tell_choice.ensures in
+    chosen_chooses p W c.args.depth c.args.at e ls c.requires.ready c.in_ok-x.ensures y z (length c.deref.result.now) many ev (length c.args.arms.now) (sym (labels_many c.args.arms.now))
+    (c.in_ok-bits.ensures (λ v. typed p.model (promote_of (type_of e)) v c.convert.new.sym.net c.in_ok-y.y.bits) (λ v. ap (map (holds v c.tell_choice.new.sym.net)) c.deref-2.ensures.value ∙ cases_still p W c.args.depth c.args.at e ls c.requires.ready c.in_ok-x.ensures y z (length c.deref.result.now) many ev v))
 
 pub switches::one_arm-narrow-requires-clause-fits : goal.switches::one_arm-narrow-requires-clause-fits
 switches::one_arm-narrow-requires-clause-fits t c = c.requires.ready.fits
