@@ -1,5 +1,5 @@
 -- By the scale of runs that seek no part costs more than it weighs, and none draws more bits.
-use Rattle.std.proofs.Common.{◌≡◌, ℕ, zero, suc, ◌+◌, ◌*◌, ◌≤◌, Bool, true, false, cond, List, [], ◌∷◌, length, refl, arith, Option, Some, None, slice_get}
+use Rattle.std.proofs.Common.{◌≡◌, ℕ, zero, suc, ◌+◌, ◌*◌, ◌≤◌, Bool, true, false, cond, List, [], ◌∷◌, length, refl, ap, arith, Option, Some, None, slice_get}
 use Rattle.std.proofs.Math.Nat.{mul-le-mul_left}
 use Rattle.c_core.specs.Tree.{Exp, Expr, Node, Const, Var, Index, Unary, Cast, Step, Binary, Logic, Choose, Comma, Assign, Call, Exps, NoExp, MoreExp, Init, Absent, One, Many, Rows, Names, NoName, MoreName, First, NoFirst, FirstExp, FirstNames, Stm, Stmt, Form, Empty, Do, Declare, Block, If, While, DoWhile, For, Break, Continue, Return, Label, Switch, Else, NoElse, OrElse, Stms, NoStm, MoreStm, MoreCase, Function, Program}
 use Rattle.c_core.specs.Typing.{labels_in}
@@ -188,7 +188,7 @@ module _ (p : Program) (ss : List BoundSegment) (k : ℕ) where
     body = omega arith;
     risk = omega arith;
     head = λ at os. refl;
-    turns = λ t r. refl;
+    turns = λ t r. ap (λ z. suc k * t + k * z) (omega arith);
   }
 
   -- the functions that are called, one depth deeper each

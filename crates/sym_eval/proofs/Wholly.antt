@@ -89,7 +89,7 @@ module _ (p : Program) (W : Mode) (n : ℕ) (r : _) (ps : List ℕ) (at : Spot) 
 -- ---- obligations, whose parts cost what they weigh
 module _ (p : Program) (I : List Placed) (cost : CostsItsWeight p I (suc (length p.functions))) where
   pub main_costs : weight_of_main p (obliging p I) (length p.functions) ≡ Weight p I
-  main_costs = cost.nodes 0 p.main
+  main_costs = omega (arith, cost.nodes 0 p.main)
 
   pub main_draws : bits_of_main p (obliging p I) (length p.functions) ≡ Bits p
   main_draws = cost.bits p.main

@@ -8,20 +8,21 @@ use Rattle.c_core.specs.declared.tree.Callee.TheVariants.{Defined, Exit, Input, 
 use Rattle.c_meaning.specs.Duties.{Placed, node_may_overflow}
 use Rattle.sym_weight.specs.Sum as sum
 use Rattle.sym_weight.specs.Sum.{Sum}
-use Rattle.sym_weight.specs.Table.{bits_of_objects}
+use Rattle.sym_weight.specs.Table.{bits_of_objects, statement_weight}
 use Rattle.sym_weight.specs.Weight as weights
 use Rattle.sym_weight.specs.Weight.{weight_in, placed_weight, nowhere}
 use Rattle.sym_scale.specs.Cost as cost
 use Rattle.sym_scale.specs.Cost.{Cost, nodes_in, bits_in}
 use Rattle.sym_scale.specs.Obliged.{obliged, CostsItsWeight}
 
-no_risk : (b : Bool) → cond b 0 0 ≡ 0
+no_risk : (b : Bool) → ◌≡◌ {A = ℕ} (cond b 0 0) 0
 no_risk true = refl
 no_risk false = refl
 
 -- ---- and-nodes and bits alike
 -- part: of what a part counts, its weight or its bits; f: what a call counts after its arguments; g: what a body does
-module _ (p : Program) (part : ℕ → ℕ → ℕ) (at_place : Bool → Spot → ℕ) (f : ℕ → ℕ → ℕ) (g : ℕ → ℕ) (same : (weight k : ℕ) → f weight k ≡ part weight 0 + g k) where
+module _ (p : Program) (part : ℕ → ℕ → ℕ) (at_place : Bool → Spot → ℕ) (f : ℕ → ℕ → ℕ) (g : ℕ → ℕ) (same : (weight k : ℕ) → f weight k ≡ part weight 0 + g k)
+    (turns : ℕ → ℕ → ℕ) (turned : (t r : ℕ) → turns t r ≡ t + r) (placed : (at : Spot) → part (statement_weight + at_place false at) 0 ≡ part statement_weight 0 + at_place false at) where
   abbrev C : Cost
   C = record {
     part = part;
@@ -31,7 +32,7 @@ module _ (p : Program) (part : ℕ → ℕ → ℕ) (at_place : Bool → Spot �
     body = 0;
     risk = 0;
     head = λ at changed. part (3 * at_place true at + 4 * bits_of_objects p changed) (bits_of_objects p changed);
-    turns = λ test rest. test + rest;
+    turns = turns;
     calling = f;
   }
 
@@ -125,7 +126,7 @@ module _ (p : Program) (part : ℕ → ℕ → ℕ) (at_place : Bool → Spot �
   module _ (result : Option IntType) where
     mutual
       statement : (s : Stm) → cost.statement p C result s ≡ sum.statement p S at_place result s
-      statement (Stmt at k) = omega (arith, form at k)
+      statement (Stmt at k) = omega (arith, form at k, placed at)
 
       form : (at : Spot) (k : Form) → cost.form p C result at k ≡ sum.form p S at_place result at k
       form at Empty = refl
@@ -133,9 +134,10 @@ module _ (p : Program) (part : ℕ → ℕ → ℕ) (at_place : Bool → Spot �
       form at (Declare ns) = declared ns
       form at (Block b) = statements b
       form at (If e a b) = omega (arith, control at e, statement a, otherwise b)
-      form at (While e b) = omega (arith, control at e, statement b)
-      form at (DoWhile b e) = omega (arith, control at e, statement b)
-      form at (For i e s b) = omega (arith, first i, control_if at e, expression_if s, statement b)
+      form at (While e b) = omega (arith, control at e, statement b, turned (cost.control p C at e) (cost.statement p C result b))
+      form at (DoWhile b e) = omega (arith, control at e, statement b, turned (cost.control p C at e) (cost.statement p C result b))
+      form at (For i e s b) =
+          omega (arith, first i, control_if at e, expression_if s, statement b, turned (cost.control_if p C at e) (cost.expression_if p C s + cost.statement p C result b))
       form at Break = refl
       form at Continue = refl
       form at (Return e) = given result e
@@ -161,11 +163,11 @@ module _ (p : Program) (part : ℕ → ℕ → ℕ) (at_place : Bool → Spot �
 nodes_are_weight : (p : Program) (I : List Placed) (n weight f : ℕ) → nodes_in p (obliged p I) n weight f ≡ weight + weight_in p I n f
 nodes_are_weight p I zero weight f = omega arith
 nodes_are_weight p I (suc n) weight f =
-    omega (arith, function_of p (λ w b. w) (placed_weight p I) (nodes_in p (obliged p I) n) (weight_in p I n) (nodes_are_weight p I n) (slice_get p.functions f))
+    omega (arith, function_of p (λ w b. w) (placed_weight p I) (nodes_in p (obliged p I) n) (weight_in p I n) (nodes_are_weight p I n) (λ t r. t + (0 + r)) (λ t r. omega arith) (λ at. refl) (slice_get p.functions f))
 
 bits_are_drawn : (p : Program) (I : List Placed) (n f : ℕ) → bits_in p (obliged p I) n f ≡ weights.bits_in p n f
 bits_are_drawn p I zero f = refl
-bits_are_drawn p I (suc n) f = function_of p (λ w b. b) nowhere (λ w k. bits_in p (obliged p I) n k) (weights.bits_in p n) (λ w k. bits_are_drawn p I n k) (slice_get p.functions f)
+bits_are_drawn p I (suc n) f = function_of p (λ w b. b) nowhere (λ w k. bits_in p (obliged p I) n k) (weights.bits_in p n) (λ w k. omega (arith, bits_are_drawn p I n k)) (λ t r. t + r) (λ t r. refl) (λ at. omega arith) (slice_get p.functions f)
 
 pub costs_its_weight : (p : Program) (I : List Placed) (n : ℕ) → CostsItsWeight p I n
 costs_its_weight p I n = record { nodes = nodes_are_weight p I n; bits = bits_are_drawn p I n }
