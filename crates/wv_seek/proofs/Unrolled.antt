@@ -69,7 +69,7 @@ module _ (p : Program) (ss : List BoundSegment) (k : ℕ) (s : Sym) (hit : Bit) 
   module _ (law : (w : List ℤ) → IsSoughtRun p ss k (suc k) w (none_completed ss)) (h : IsWholeSought p ss k s) (light : IsLightToSeek p ss k)
       (bits : SeekBits p k ≤ SeekWeight p ss k) (stand : All (StandsFor p) s.sites.items) where
     hit_in : IsIn s.net hit
-    hit_in = (subst (AreIn s.net) one h.fits.failing) 0 hit refl
+    hit_in = (subst (AreIn s.net) one h.fits.failing) 0 hit (omega arith)
 
     is_reach : IsReach p ss k (SeekWeight p ss k) (SeekBits p k) made
     is_reach = record {
