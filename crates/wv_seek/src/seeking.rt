@@ -13,8 +13,8 @@ use std::alloc::Global;
 use way_match::Bound;
 
 /// Values with which a run of a program violates its property and matches the segments of a witness, with at most this
-/// many turns of a loop on each arrival and this many calls active besides main, by a budget of conflicts. What is found
-/// is run and matched, in 2,000,000 steps at most.
+/// many turns of a loop on each arrival and this many calls active besides main, by a budget of conflicts. What is
+/// found is run and matched, in 2,000,000 steps at most.
 pub fn seek(
     alloc: Global,
     program: &Program,
