@@ -1,11 +1,10 @@
 -- What a net that isn't too heavy gives a search.
-use Rattle.std.proofs.Common.{◌≤◌, ◌<◌, ◌+◌, ◌*◌, ◌-◌, ◌^◌, ℕ, List, length, arith}
+use Rattle.std.proofs.Common.{◌≤◌, ◌<◌, ◌+◌, ◌*◌, ◌-◌, ◌^◌, ℕ, List, arith}
 use Rattle.std.proofs.Math.Pow.{pow_mono}
 use Rattle.c_core.specs.Program.{IsProgram}
 use Rattle.c_core.specs.Tree.{Program}
-use Rattle.c_meaning.specs.Run.{first_cells, most_cells}
 use Rattle.circuits.specs.Net.{count_inputs}
-use Rattle.seek_answer.specs.Answering.{AreBrief, step_budget}
+use Rattle.seek_answer.specs.Answering.{AreBrief}
 use Rattle.seek_answer.specs.Reaching.{IsPromised}
 use Rattle.seek_answer.specs.declared.reach.Reach.{Reach}
 use Rattle.seek_meaning.specs.Steps.{StepsWithin}

@@ -1,7 +1,6 @@
 -- What a state that stands for all runs that seek says of the hit.
-use Rattle.std.proofs.Common.{◌≡◌, ◌≤◌, ◌<◌, ◌↔◌, ℕ, suc, arith, Bool, true, false, ℤ, List, [], ◌∷◌, Some, refl, sym, ◌∙◌, ap, subst, slice_get}
+use Rattle.std.proofs.Common.{◌≡◌, ◌≤◌, ℕ, suc, arith, Bool, true, false, ℤ, List, [], ◌∷◌, refl, sym, ◌∙◌, ap, subst, slice_get}
 use Rattle.std.specs.List.{All}
-use Rattle.c_core.specs.Program.{IsProgram}
 use Rattle.c_core.specs.Tree.{Program}
 use Rattle.c_meaning.specs.declared.run.HavocEnd.TheVariants.{Failed}
 use Rattle.c_meaning.specs.Acts.{Res, Go, Stop, Flow}
@@ -14,7 +13,7 @@ use Rattle.seek_answer.specs.Reaching.{HaveRoom, IsPromised, IsReach, StandsFor,
 use Rattle.seek_answer.specs.declared.reach.Reach.{Reach}
 use Rattle.seek_meaning.specs.Progress.{none_completed}
 use Rattle.seek_meaning.specs.Seeking.{SeekEnd, Hits, Misses, SeekState, SeekRun, hits, draws_sought}
-use Rattle.seek_mode.specs.SeekingMode.{the_hit, seeking_mode}
+use Rattle.seek_mode.specs.SeekingMode.{the_hit}
 use Rattle.seek_mode.specs.SoughtRuns.{IsSoughtRun, as_judged, judged_to_seek}
 use Rattle.seek_walk.specs.Whole.{IsLightToSeek, IsWholeSought}
 use Rattle.seek_weight.specs.Laws.{IsDecidedWithin}
