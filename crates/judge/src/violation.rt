@@ -4,26 +4,26 @@ ghost use Rattle.judge.specs.Judging.{verdict_by};
 ghost use Rattle.way_match.specs.Verdicts.{IsRightVerdict};
 ghost use Rattle.way_match.specs.View.{segments_view};
 
-use crate::watched::run_watched;
-use c_core::Program;
+use crate::watched::watched_over;
 use c_meaning::{Cause, End, Reason, Run, Verdict};
 use std::alloc::Global;
-use way_match::{Bound, given};
+use way_match::{Bound, given_over};
+use way_places::Index;
 use wv_base::{OutOfMemory, Seq};
 
-/// The verdict on the run of a program that draws the values of a violation sequence, with a budget of steps.
+/// The verdict on the run of an indexed program that draws the values of a violation sequence, with a budget of steps.
 ///
-/// Example: `judge_sequence` in `crates/witval/src/sequence.rt`.
+/// Example: `judge_bound` in `crates/witval/src/sequence.rt`.
 pub fn judge_violation(
     alloc: Global,
-    program: &Program,
+    index: &Index,
     bound: &Bound,
     steps: u64,
 ) -> Result<Verdict, OutOfMemory>
-    ensures { IfOk result (IsRightVerdict steps (program_view program.now) (segments_view bound.now)) }
+    ensures { IfOk result (IsRightVerdict steps (program_view index.now) (segments_view bound.now)) }
 {
-    let choices = given(alloc, bound, program)?;
-    let watched = run_watched(alloc, program, bound, &choices, steps)?;
+    let choices = given_over(alloc, bound, index)?;
+    let watched = watched_over(alloc, index, bound, &choices, steps)?;
     Ok(verdict(watched.run, watched.found, steps))
 }
 

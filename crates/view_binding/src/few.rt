@@ -2,9 +2,8 @@
 ghost use Rattle.std.specs.Prelude.{◌≡◌, ◌<◌, ◌^◌, length, true};
 ghost use Rattle.way_bind.specs.Binding.{segments_of, waypoints_in};
 
-use c_core::Program;
 use std::alloc::Global;
-use way_bind::{BindFault, bind_violation};
+use way_bind::{BindFault, Lookup, bind_over};
 use way_match::Bound;
 use wv_schema::{Content, Segment, Witness};
 
@@ -39,9 +38,9 @@ pub fn segments_of(witness: &Witness) -> &[Segment]
 }
 
 /// What is bound; too many waypoints are answered as want of memory.
-pub fn bind(alloc: Global, witness: &Witness, program: &Program) -> Result<Bound, BindFault> {
+pub fn bind(alloc: Global, witness: &Witness, lookup: &Lookup) -> Result<Bound, BindFault> {
     if !are_few(segments_of(witness)) {
         return Err(BindFault::OutOfMemory);
     }
-    bind_violation(alloc, witness, program)
+    bind_over(alloc, witness, lookup)
 }

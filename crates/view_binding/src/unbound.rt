@@ -164,18 +164,17 @@ fn note_rest(
 pub fn explain_unbound_waypoints(
     alloc: Global,
     files: &Files<'_>,
-    program: &Program,
+    lookup: &Lookup,
     witness: &Witness,
     fault: BindFault,
     out: &mut Messages,
 ) -> Result<(), OutOfMemory> {
-    let lookup = Lookup::new(alloc, program)?;
     let told = number_in(fault)?;
-    explain_waypoint(alloc, files, &lookup, witness, fault, true, out)?;
+    explain_waypoint(alloc, files, lookup, witness, fault, true, out)?;
     let sought = sought_in(files.text(File::Witness));
-    let faults = faults_behind(alloc, &lookup, witness, told)?;
+    let faults = faults_behind(alloc, lookup, witness, told)?;
     for (at, other) in faults.first.as_slice().iter().enumerate() {
-        explain_waypoint(alloc, files, &lookup, witness, *other, at < sought, out)?;
+        explain_waypoint(alloc, files, lookup, witness, *other, at < sought, out)?;
     }
     note_rest(alloc, &faults, "waypoints", out)
 }

@@ -7,7 +7,9 @@ use view_binding::{bind, explain_unbound_waypoints, line_count, segments_of};
 use view_ends::{count_lines, explain_ended, explain_unmatched, note_unfixed, show_run};
 use view_runs::Tracker;
 use view_text::{File, Files, Messages};
-use way_match::{Bound, Matcher, given};
+use way_bind::Lookup;
+use way_match::{Bound, Matcher, given_over};
+use way_places::Index;
 use wv_base::{OutOfMemory, Seq};
 use wv_schema::Witness;
 
@@ -85,13 +87,13 @@ struct Judged {
 /// The run that the segments give, as the judge asks it.
 fn judged_run(
     alloc: Global,
-    program: &Program,
+    index: &Index,
     bound: &Bound,
     steps: u64,
 ) -> Result<Judged, OutOfMemory> {
-    let choices = given(alloc, bound, program)?;
-    let mut matcher = Matcher::new(alloc, bound, program)?;
-    let run = run_machine(alloc, program, &choices, steps, &mut matcher)?;
+    let choices = given_over(alloc, bound, index)?;
+    let mut matcher = Matcher::new(alloc, bound, index)?;
+    let run = run_machine(alloc, index.program(), &choices, steps, &mut matcher)?;
     let positions = matcher.done();
     Ok(Judged {
         choices,
@@ -112,14 +114,14 @@ fn events_of(judged: &Judged) -> &[u64] {
 fn tracked<'a>(
     alloc: Global,
     files: &Files<'_>,
-    program: &'a Program,
+    index: &'a Index<'a>,
     bound: &'a Bound,
     judged: &'a Judged,
     steps: u64,
 ) -> Result<Tracker<'a>, OutOfMemory> {
     let lines = line_count(files.text(File::Program));
-    let mut tracker = Tracker::new(alloc, program, bound, lines, events_of(judged))?;
-    let _ = run_machine(alloc, program, &judged.choices, steps, &mut tracker)?;
+    let mut tracker = Tracker::new(alloc, index, bound, lines, events_of(judged))?;
+    let _ = run_machine(alloc, index.program(), &judged.choices, steps, &mut tracker)?;
     Ok(tracker)
 }
 
@@ -127,7 +129,7 @@ fn tracked<'a>(
 fn explain_violated(
     alloc: Global,
     files: &Files<'_>,
-    program: &Program,
+    index: &Index,
     witness: &Witness,
     bound: &Bound,
     judged: &Judged,
@@ -135,7 +137,7 @@ fn explain_violated(
     out: &mut Messages,
 ) -> Result<(), OutOfMemory> {
     let segments = segments_of(witness);
-    let tracker = tracked(alloc, files, program, bound, judged, steps)?;
+    let tracker = tracked(alloc, files, index, bound, judged, steps)?;
     count_lines(alloc, &tracker, out)?;
     if judged.positions.is_none() {
         return explain_unmatched(alloc, files, witness, segments, &tracker, out);
@@ -148,26 +150,26 @@ fn explain_violated(
 fn explain_end(
     alloc: Global,
     files: &Files<'_>,
-    program: &Program,
+    index: &Index,
     witness: &Witness,
     bound: &Bound,
     judged: &Judged,
     steps: u64,
     out: &mut Messages,
 ) -> Result<(), OutOfMemory> {
-    let tracker = tracked(alloc, files, program, bound, judged, steps)?;
+    let tracker = tracked(alloc, files, index, bound, judged, steps)?;
     count_lines(alloc, &tracker, out)?;
     match judged.run.end {
         End::Ended => explain_ended(
             alloc,
-            program,
+            index.program(),
             segments_of(witness),
             &judged.choices,
             &judged.run,
             &tracker,
             out,
         ),
-        End::Undefined(spot) => explain_undefined(alloc, program, judged, spot, out),
+        End::Undefined(spot) => explain_undefined(alloc, index.program(), judged, spot, out),
         End::Spent => explain_spent(alloc, &tracker, steps, out),
         End::Deep => explain_deep(alloc, &tracker, out),
         End::Violated(_) => Ok(()),
@@ -178,18 +180,18 @@ fn explain_end(
 fn explain_run(
     alloc: Global,
     files: &Files<'_>,
-    program: &Program,
+    index: &Index,
     witness: &Witness,
     bound: &Bound,
     steps: u64,
     out: &mut Messages,
 ) -> Result<(), OutOfMemory> {
-    let judged = judged_run(alloc, program, bound, steps)?;
+    let judged = judged_run(alloc, index, bound, steps)?;
     match judged.run.end {
         End::Violated(_) => explain_violated(
-            alloc, files, program, witness, bound, &judged, steps, out,
+            alloc, files, index, witness, bound, &judged, steps, out,
         ),
-        _ => explain_end(alloc, files, program, witness, bound, &judged, steps, out),
+        _ => explain_end(alloc, files, index, witness, bound, &judged, steps, out),
     }
 }
 
@@ -202,8 +204,9 @@ pub fn explain_sequence(
     steps: u64,
     out: &mut Messages,
 ) -> Result<(), OutOfMemory> {
-    match bind(alloc, witness, program) {
-        Ok(bound) => explain_run(alloc, files, program, witness, &bound, steps, out),
-        Err(fault) => explain_unbound_waypoints(alloc, files, program, witness, fault, out),
+    let lookup = Lookup::new(alloc, program)?;
+    match bind(alloc, witness, &lookup) {
+        Ok(bound) => explain_run(alloc, files, &lookup.index, witness, &bound, steps, out),
+        Err(fault) => explain_unbound_waypoints(alloc, files, &lookup, witness, fault, out),
     }
 }

@@ -38,7 +38,7 @@ fn is_assumption(point: &Point) -> bool {
 #[derive(Drop)]
 pub struct Route<'a> {
     alloc: Global,
-    index: Index<'a>,
+    index: &'a Index<'a>,
     bound: &'a Bound,
     placed: Placed,
 }
@@ -46,10 +46,9 @@ pub struct Route<'a> {
 impl<'a> Route<'a> {
     pub fn new(
         alloc: Global,
-        program: &'a Program,
+        index: &'a Index<'a>,
         bound: &'a Bound,
     ) -> Result<Route<'a>, OutOfMemory> {
-        let index = Index::new(alloc, program)?;
         let placed = Placed::new(alloc, bound.segments.as_slice())?;
         Ok(Route {
             alloc,
@@ -74,7 +73,7 @@ impl<'a> Route<'a> {
     }
 
     fn is_passed(&self, point: &Point, event: Event, memory: &Memory) -> bool {
-        passes(self.alloc, &self.index, point, event, memory)
+        passes(self.alloc, self.index, point, event, memory)
     }
 
     /// The waypoint to avoid of a segment, by its number in it from 0, that an event passes.
@@ -94,7 +93,7 @@ impl<'a> Route<'a> {
 
     /// The program, and the places of what witnesses name in it.
     pub fn index(&self) -> &Index<'a> {
-        &self.index
+        self.index
     }
 
     pub fn program(&self) -> &'a Program {

@@ -2,7 +2,7 @@
 use crate::comings::{Comings, Moment};
 use crate::route::{Route, Waiting};
 use crate::ways::Ways;
-use c_core::{Callee, Node, Program, Spot};
+use c_core::{Callee, Node, Spot};
 use c_meaning::{Event, Memory, Watcher};
 use std::alloc::Global;
 use view_counts::Counts;
@@ -73,17 +73,17 @@ fn no_counts(alloc: Global, lines: u32) -> Result<Vec<u64>, OutOfMemory> {
 }
 
 impl<'a> Tracker<'a> {
-    /// Before all events of a run of a program of so many lines.
+    /// Before all events of a run of an indexed program of so many lines.
     pub fn new(
         alloc: Global,
-        program: &'a Program,
+        index: &'a Index<'a>,
         bound: &'a Bound,
         line_count: u32,
         wanted: &'a [u64],
     ) -> Result<Tracker<'a>, OutOfMemory> {
-        let route = Route::new(alloc, program, bound)?;
+        let route = Route::new(alloc, index, bound)?;
         let ways = Ways::new(alloc, bound.segments.as_slice())?;
-        let counts = Counts::new(alloc, program, line_count)?;
+        let counts = Counts::new(alloc, index.program(), line_count)?;
         let lines = no_counts(alloc, line_count)?;
         Ok(Tracker {
             route,

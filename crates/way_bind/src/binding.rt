@@ -106,6 +106,14 @@ pub fn bind_violation(
     ensures { Binds (program_view program.now) witness.now result }
 {
     let lookup = Lookup::new(alloc, program)?;
-    let segments = bind_segments(alloc, &lookup, segments_of(witness))?;
+    bind_over(alloc, witness, &lookup)
+}
+
+/// The same over a program that is indexed, with its names.
+pub fn bind_over(alloc: Global, witness: &Witness, lookup: &Lookup) -> Result<Bound, BindFault>
+    requires { length (waypoints_in (segments_of witness.now)) < 2 ^ 30 }
+    ensures { Binds (program_view lookup.now.index) witness.now result }
+{
+    let segments = bind_segments(alloc, lookup, segments_of(witness))?;
     Ok(Bound { segments })
 }

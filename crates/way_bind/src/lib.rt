@@ -10,7 +10,7 @@ mod lookup;
 mod way;
 mod waypoint;
 
-pub use binding::{bind_violation, told};
+pub use binding::{bind_over, bind_violation, told};
 pub use fault::{BindFault, Unbound};
 pub use laws::one_answer;
 pub use lookup::Lookup;

@@ -155,15 +155,23 @@ fn push_choices(
     Ok(())
 }
 
+/// For each input call of an indexed program the values given to it, in witness order.
+pub fn given_over(alloc: Global, bound: &Bound, index: &Index) -> Result<Choices, OutOfMemory>
+    ensures { IfOk result (λ c. c ≡ given_by (program_view index.now) (segments_view bound.now)) }
+{
+    let gathered = gather(alloc, index, bound.segments.as_slice())?;
+    let values = values_by_place(alloc, gathered.as_slice())?;
+    let calls = input_calls(alloc, index.program())?;
+    let mut list = Seq::new(alloc);
+    push_choices(alloc, &values, calls.as_slice(), &mut list)?;
+    Ok(Choices::Given(list))
+}
+
 /// For each input call of the program the values given to it, in witness order.
 pub fn given(alloc: Global, bound: &Bound, program: &Program) -> Result<Choices, OutOfMemory>
     ensures { IfOk result (λ c. c ≡ given_by (program_view program.now) (segments_view bound.now)) }
 {
     let index = Index::new(alloc, program)?;
-    let gathered = gather(alloc, &index, bound.segments.as_slice())?;
-    let values = values_by_place(alloc, gathered.as_slice())?;
-    let calls = input_calls(alloc, program)?;
-    let mut list = Seq::new(alloc);
-    push_choices(alloc, &values, calls.as_slice(), &mut list)?;
-    Ok(Choices::Given(list))
+    let choices = given_over(alloc, bound, &index)?;
+    Ok(choices)
 }

@@ -18,7 +18,7 @@ mod states;
 mod stored;
 mod values;
 
-pub use given_values::given;
+pub use given_values::{given, given_over};
 pub use laws::{confirmed_violates, confirms_exactly, test_matches};
 pub use matcher::Matcher;
 pub use point::{Aim, Bound, BoundSegment, Point, ReturnTest};

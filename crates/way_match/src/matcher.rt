@@ -2,9 +2,8 @@ ghost use Rattle.std.specs.Prelude.{◌≡◌, List, IfOk};
 ghost use Rattle.c_core.specs.View.{program_view};
 ghost use Rattle.c_core.specs.declared.program.Program.{Program};
 ghost use Rattle.way_match.specs.Matching.{Seen, Finds};
-ghost use Rattle.way_match.specs.inside.Prepared.{all_prepared};
 ghost use Rattle.way_match.specs.inside.Steps.{Matching, begun, after, after_all, last_way, positions_of};
-ghost use Rattle.way_match.specs.View.{each_segment_view, segments_view};
+ghost use Rattle.way_match.specs.View.{segments_view};
 ghost use Rattle.way_match.specs.declared.point.Bound.{Bound};
 
 use crate::avoided::Avoids;
@@ -58,26 +57,14 @@ impl<'a> Model for Matcher<'a> {
     ghost invariant = { λ m. Shaped (program_view m.program.now) m.bound.now.segments m.prepared m.by_place m.avoids m.states m.room.items };
 }
 
-fn prepared(
-    alloc: Global,
-    program: &Program,
-    segments: &[BoundSegment],
-) -> Result<Seq<Prepared>, OutOfMemory>
-    ensures { IfOk result (λ prepared. prepared ≡ all_prepared (program_view program.now)
-        (each_segment_view segments.now)) }
-{
-    let places = Index::new(alloc, program)?;
-    Ok(prepare(alloc, &places, segments)?)
-}
-
 impl<'a> Matcher<'a> {
-    /// Before all events.
+    /// Before all events of an indexed program.
     pub fn new(
         alloc: Global,
         bound: &'a Bound,
-        program: &'a Program,
+        index: &Index<'a>,
     ) -> Result<Matcher<'a>, OutOfMemory>
-        ensures { IfOk result (λ m. m ≡ begun program.now bound.now) }
+        ensures { IfOk result (λ m. m ≡ begun index.now bound.now) }
     {
         let segments = bound.segments.as_slice();
         let mut room = Vec::new(alloc);
@@ -85,9 +72,9 @@ impl<'a> Matcher<'a> {
             room.push(0)?;
         }
         Ok(Matcher {
-            program,
+            program: index.program(),
             bound,
-            prepared: prepared(alloc, program, segments)?,
+            prepared: prepare(alloc, index, segments)?,
             by_place: ByPlace::of(alloc, segments)?,
             avoids: Avoids::of(alloc, segments)?,
             states: States::new(alloc, segments.len(), first_avoids(segments))?,

@@ -1,6 +1,5 @@
 -- What a name means at a place: the last of its scope's names that has its key, or else of the static objects.
 use Rattle.std.proofs.Common.{◌≡◌, ◌<◌, ◌≤◌, ℕ, sym, ap, subst, ◌∙◌, Bool, List, ◌++◌, length, take, Option, Some, None, IsTrue}
-use Rattle.std.specs.BTreeMap.{BTreeMap}
 use Rattle.std.specs.List.Sorted.{IsPartitionedBy}
 use Rattle.std.proofs.lemmas.Bool.{false≢true}
 use Rattle.c_core.specs.Tree.{Program}
@@ -21,8 +20,9 @@ use Rattle.way_names.specs.declared.versions.Versions.{Versions}
 use Rattle.way_names.proofs.FrontLaws.{fixed_first}
 use Rattle.way_names.proofs.StaticLaws.{front_is_fixed, statics_parted}
 use Rattle.way_names.proofs.VersionLaws.{last_joined}
+use Rattle.way_names.specs.declared.places.ScopesAt.{ScopesAt}
 
-module _ (p : Program) (fixed : List (Spot × ℕ)) (before nested : Versions) (at_statements at_loops : BTreeMap (ℕ × ℕ) (Option ℕ)) (h : IsNamed p fixed before nested at_statements at_loops)
+module _ (p : Program) (fixed : List (Spot × ℕ)) (before nested : Versions) (at_statements at_loops : ScopesAt) (h : IsNamed p fixed before nested at_statements at_loops)
     (key : ℕ) (known : key < length p.objects) where
   pub local_found : (kind : PlaceKind) (spot : Spot) → IsTrue (is_scoped p kind spot) → look nested (scope_of kind spot at_statements at_loops) key ≡ last_of (has_key p.objects key) (locals_at p kind spot)
   local_found Statement spot there = h.statements spot key known
@@ -47,7 +47,7 @@ pub parted : (p : Program) (fixed statics : List (Spot × ℕ)) → IsProgram p 
 parted p fixed statics checked is same spot =
     subst (λ (l : List (Spot × ℕ)). IsPartitionedBy (λ (s : Spot × ℕ). is_before s.0 spot) l) (sym (same ∙ is)) (statics_parted spot 0 p.objects checked.numbered)
 
-pub static_looked : (p : Program) (fixed : List (Spot × ℕ)) (before nested : Versions) (at_statements at_loops : BTreeMap (ℕ × ℕ) (Option ℕ)) → IsNamed p fixed before nested at_statements at_loops
+pub static_looked : (p : Program) (fixed : List (Spot × ℕ)) (before nested : Versions) (at_statements at_loops : ScopesAt) → IsNamed p fixed before nested at_statements at_loops
     → (key : ℕ) → key < length p.objects → IsProgram p → (spot : Spot) (statics : List (Spot × ℕ)) → statics ≡ fixed → (count : ℕ) → count ≤ length statics → numbers_of (take count statics) ≡ front_before spot statics
     → look before (behind count) key ≡ last_of (has_key p.objects key) (fixed_before p spot)
 static_looked p fixed before nested at_statements at_loops h key known checked spot statics same count within front =

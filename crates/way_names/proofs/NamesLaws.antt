@@ -1,6 +1,5 @@
 -- The names at a place are its static objects, and those of its scope.
 use Rattle.std.proofs.Common.{◌≡◌, ℕ, sym, ap, subst, ◌∙◌, List, ◌++◌, Option, IsTrue}
-use Rattle.std.specs.BTreeMap.{BTreeMap}
 use Rattle.std.proofs.lemmas.Bool.{false≢true}
 use Rattle.c_core.specs.Tree.{Program}
 use Rattle.c_core.specs.View.{program_view}
@@ -15,8 +14,9 @@ use Rattle.way_names.specs.Visible.{is_scoped, names_at}
 use Rattle.way_names.proofs.FrontLaws.{fixed_first}
 use Rattle.way_names.proofs.ScopeLaws.{one_scope}
 use Rattle.way_names.proofs.StaticLaws.{front_is_fixed}
+use Rattle.way_names.specs.declared.places.ScopesAt.{ScopesAt}
 
-module _ (p : Program) (fixed : List (Spot × ℕ)) (scopes : List Scope) (at_statements at_loops : BTreeMap (ℕ × ℕ) (Option ℕ)) (h : IsNames p fixed scopes at_statements at_loops) where
+module _ (p : Program) (fixed : List (Spot × ℕ)) (scopes : List Scope) (at_statements at_loops : ScopesAt) (h : IsNames p fixed scopes at_statements at_loops) where
   place_sees : (kind : PlaceKind) (spot : Spot) → IsTrue (is_scoped p kind spot) → IsScope scopes (scope_of kind spot at_statements at_loops) (locals_at p kind spot)
   place_sees Statement spot there = h.statements spot
   place_sees Loop spot there = h.loops spot
@@ -34,7 +34,7 @@ module _ (p : Program) (fixed : List (Spot × ℕ)) (scopes : List Scope) (at_st
       ∙ sym (fixed_first p kind spot)
 
 -- the same from what the code reads
-pub visible_names : (inside p : rust.Program) (fixed statics : List (Spot × ℕ)) (nested scopes : List Scope) (at_statements at_loops : BTreeMap (ℕ × ℕ) (Option ℕ)) → inside ≡ p → IsNames (program_view inside) fixed nested at_statements at_loops
+pub visible_names : (inside p : rust.Program) (fixed statics : List (Spot × ℕ)) (nested scopes : List Scope) (at_statements at_loops : ScopesAt) → inside ≡ p → IsNames (program_view inside) fixed nested at_statements at_loops
     → statics ≡ fixed → scopes ≡ nested → (kind : PlaceKind) (spot : Spot) → IsTrue (is_scoped (program_view p) kind spot) → (scope : Option ℕ) (locals : List ℕ) → scope ≡ scope_of kind spot at_statements at_loops → IsScope scopes scope locals
     → front_before spot statics ++ locals ≡ names_at (program_view p) kind spot
 visible_names inside p fixed statics nested scopes at_statements at_loops one h same_statics same_scopes kind spot there scope locals same is =

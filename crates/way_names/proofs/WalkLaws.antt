@@ -1,6 +1,5 @@
 -- What a walk notes sees the names that are visible there.
 use Rattle.std.proofs.Common.{◌≡◌, ℕ, refl, sym, subst, Bool, true, false, cond, List, [], ◌∷◌, ◌++◌, Option, Some, None}
-use Rattle.std.specs.BTreeMap.{BTreeMap}
 use Rattle.std.specs.List.{AllZip}
 use Rattle.std.specs.Option.{option_flatten}
 use Rattle.std.proofs.lemmas.List.{append-nil, append_assoc}
@@ -8,13 +7,14 @@ use Rattle.c_core.specs.Tree.{Stm, Stmt, Form, Empty, Do, Declare, Block, If, Wh
 use Rattle.c_core.specs.Parts.{declared_by, objects_of_first, same_spot}
 use Rattle.c_core.specs.declared.number.Spot.{Spot}
 use Rattle.c_core.specs.declared.place.PlaceKind.TheVariants.{Statement, Loop}
-use Rattle.way_places.specs.Maps.{first_in, found_at}
+use Rattle.way_places.specs.Maps.{first_in}
 use Rattle.way_names.specs.declared.scope.Scope.{Scope}
 use Rattle.way_names.specs.declared.walk.Walk as rust
 use Rattle.way_names.specs.Scopes.{IsScope, outermost, scope_at}
 use Rattle.way_names.specs.Visible.{Sight, sight, at_loop, names_or, seen_from, sights_in, sights_in_block, sights_in_body, sights_in_else, sights_in_form, sights_in_functions}
 use Rattle.way_names.specs.Walk.{Walk, in_parentheses, innermost, is_loop, last_scope, scope_around, start, walk_view, walked, walked_block, walked_body, walked_else, walked_form, walked_functions, walked_within, with_loop, with_loop_if, with_names, with_scope, with_statement}
 use Rattle.way_names.proofs.ScopeLaws.{scope_kept, scope_more}
+use Rattle.way_names.specs.declared.places.ScopesAt.{ScopesAt}
 
 abbrev Mark : Type 0
 Mark = Spot × Option ℕ
@@ -252,14 +252,14 @@ loop_sees w fs q e =
     let v : Walk = walked_functions start fs in
     subst P (sym e) (first_sees v.scopes v.loops (sights_in_functions Loop [] fs) q ((notes_functions start fs).loops [] tt))
 
--- the same of the maps that are made of a walk
-pub statements_given : (w : rust.Walk) (fs : List Function) (m : BTreeMap (ℕ × ℕ) (Option ℕ)) → walk_view w ≡ walked_functions start fs → ((q : Spot) → found_at m q ≡ first_in w.statements.items q)
+-- the same of what a walk notes, in the order of the text
+pub statements_given : (w : rust.Walk) (fs : List Function) (m : ScopesAt) → walk_view w ≡ walked_functions start fs → ((q : Spot) → first_in m.marks.items q ≡ first_in w.statements.items q)
     → (q : Spot) → IsScope w.scopes.items (scope_at m q) (names_or [] (seen_from q (sights_in_functions Statement [] fs)))
 unfolding walk_view
 statements_given w fs m e first q =
     subst (λ o. IsScope w.scopes.items (option_flatten o) (names_or [] (seen_from q (sights_in_functions Statement [] fs)))) (sym (first q)) (statement_sees (walk_view w) fs q e)
 
-pub loops_given : (w : rust.Walk) (fs : List Function) (m : BTreeMap (ℕ × ℕ) (Option ℕ)) → walk_view w ≡ walked_functions start fs → ((q : Spot) → found_at m q ≡ first_in w.loops.items q)
+pub loops_given : (w : rust.Walk) (fs : List Function) (m : ScopesAt) → walk_view w ≡ walked_functions start fs → ((q : Spot) → first_in m.marks.items q ≡ first_in w.loops.items q)
     → (q : Spot) → IsScope w.scopes.items (scope_at m q) (names_or [] (seen_from q (sights_in_functions Loop [] fs)))
 unfolding walk_view
 loops_given w fs m e first q =

@@ -7,7 +7,7 @@ ghost use Rattle.way_names.specs.Visible.{fixed_before, is_scoped, names_at};
 
 use crate::keys::Keys;
 use crate::names::scope_of;
-use crate::places::{ScopesAt, firsts};
+use crate::places::{ScopesAt, in_order};
 use crate::statics::{count_before, statics};
 use crate::versions::{Versions, behind, of_scopes, of_statics};
 use crate::walk::in_functions;
@@ -48,8 +48,8 @@ impl<'a> NamedObjects<'a> {
         let walk = in_functions(alloc, program.functions.as_slice())?;
         let before = of_statics(alloc, &keys, statics.as_slice())?;
         let nested = of_scopes(alloc, &keys, walk.scopes.as_slice())?;
-        let statements = firsts(alloc, walk.statements.as_slice())?;
-        let loops = firsts(alloc, walk.loops.as_slice())?;
+        let statements = in_order(walk.statements)?;
+        let loops = in_order(walk.loops)?;
         Ok(NamedObjects {
             program,
             keys,

@@ -1,16 +1,17 @@
 // The objects that are visible at the places of a program.
 ghost use Rattle.std.specs.Prelude.{◌≡◌, IfOk, IsTrue};
 ghost use Rattle.c_core.specs.View.{program_view};
-ghost use Rattle.way_names.specs.Scopes.{scope_of};
+ghost use Rattle.way_names.specs.Scopes.{scope_at, scope_of};
 ghost use Rattle.way_names.specs.Visible.{is_scoped, names_at};
 
-use crate::places::{ScopesAt, firsts, scope_at};
+use crate::places::{ScopesAt, in_order};
 use crate::scope::{Scope, names_in};
 use crate::statics::{push_before, statics};
 use crate::walk::in_functions;
 use c_core::{PlaceKind, Program, Spot};
 use std::alloc::Global;
 use std::marker::Model;
+use way_places::found_at;
 use wv_base::{OutOfMemory, Seq};
 
 /// A program whose visible names are found without a walk.
@@ -40,6 +41,13 @@ impl<'a> Model for Names<'a> {
     ghost invariant = { λ x. IsNames (program_view x.program.now) x.statics.items x.scopes.items x.statements x.loops };
 }
 
+/// The scope that a place sees, the outermost where there is no such place.
+fn scope_at(scopes: &ScopesAt, spot: Spot) -> Option<usize>
+    ensures { result ≡ scope_at scopes.now spot }
+{
+    found_at(scopes.marks.as_slice(), spot).flatten()
+}
+
 /// By the kind of a place.
 pub fn scope_of(
     kind: PlaceKind,
@@ -64,8 +72,8 @@ impl<'a> Names<'a> {
     {
         let statics = statics(alloc, program.objects.as_slice())?;
         let walk = in_functions(alloc, program.functions.as_slice())?;
-        let statements = firsts(alloc, walk.statements.as_slice())?;
-        let loops = firsts(alloc, walk.loops.as_slice())?;
+        let statements = in_order(walk.statements)?;
+        let loops = in_order(walk.loops)?;
         Ok(Names {
             program,
             statics,

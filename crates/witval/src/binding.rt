@@ -3,9 +3,8 @@ ghost use Rattle.std.specs.Prelude.{◌≡◌, ◌<◌, ◌^◌, length, true};
 ghost use Rattle.c_core.specs.View.{program_view};
 ghost use Rattle.way_bind.specs.Binding.{Binds, segments_of, waypoints_in};
 
-use c_core::Program;
 use std::alloc::Global;
-use way_bind::{BindFault, bind_violation};
+use way_bind::{BindFault, Lookup, bind_over};
 use way_match::Bound;
 use wv_schema::{Content, Segment, Witness};
 
@@ -42,11 +41,11 @@ fn segments_of(witness: &Witness) -> &[Segment]
 
 /// The segments bound to the program, or the least waypoint that isn't. A file of allowed length holds far fewer
 /// waypoints than can be numbered; more are answered as out of memory.
-pub fn bind(alloc: Global, witness: &Witness, program: &Program) -> Result<Bound, BindFault>
-    ensures { Binds (program_view program.now) witness.now result }
+pub fn bind(alloc: Global, witness: &Witness, lookup: &Lookup) -> Result<Bound, BindFault>
+    ensures { Binds (program_view lookup.now.index) witness.now result }
 {
     if !are_few(segments_of(witness)) {
         return Err(BindFault::OutOfMemory);
     }
-    bind_violation(alloc, witness, program)
+    bind_over(alloc, witness, lookup)
 }

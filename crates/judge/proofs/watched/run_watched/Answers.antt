@@ -1,10 +1,10 @@
-use Rattle.judge.proofs.Judged.{found_in}
+use Rattle.std.proofs.Common.{subst}
+use Rattle.c_core.specs.View.{program_view}
+use Rattle.c_core.specs.declared.program.Program.{Program}
+use Rattle.way_match.specs.View.{segments_view}
+use Rattle.judge.specs.Watching.{IsWatched}
 use Rattle.judge.proofs.watched.run_watched.Goals as goal
 
 pub returns : goal.returns
-returns c = record {
-  run = c.in_ok-run.ensures.run;
-  found =
-      found_in c.args.program.now c.args.bound.now c.args.steps c.args.choices.now c.in_ok-matcher.matcher c.run_machine.new.watcher c.done-found.result
-      c.in_ok-matcher.ensures c.in_ok-run.ensures.seen c.done-found.ensures.exact;
-}
+returns c =
+    subst (λ (p : Program). IsWatched (program_view p) (segments_view c.args.bound.now) c.args.choices.now c.args.steps c.in_ok-watched.watched) c.in_ok-index.ensures c.in_ok-watched.ensures

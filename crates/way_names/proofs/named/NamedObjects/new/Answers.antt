@@ -1,8 +1,7 @@
--- The maps are made of what the walk notes.
+-- What the walk notes is put in order.
 use Rattle.std.proofs.Common.{◌≡◌, ◌≤◌, ap, sym, subst, length, ◌∙◌, arith}
 use Rattle.c_core.specs.View.{functions_view, program_view}
 use Rattle.c_core.specs.declared.place.PlaceKind.TheVariants.{Loop, Statement}
-use Rattle.way_places.specs.Maps.{first_in}
 use Rattle.way_names.specs.Scopes.{locals_at, scope_at, statics_from}
 use Rattle.way_names.specs.Walk.{start, walked_functions}
 use Rattle.way_names.proofs.NamedLaws.{found_in_scopes, found_in_statics}
@@ -40,8 +39,8 @@ invariant_of-result-clause-named c =
       before = found_in_statics c.in_ok-keys.keys.objects.now program.objects c.in_ok-before.before c.as_slice-4.result.now c.in_ok-statics.statics.items one c.as_slice-4.ensures.value c.in_ok-before.ensures;
       statements = λ spot.
           found (scope_at c.in_ok-statements.statements spot) (locals_at p Statement spot)
-          (statements_given c.in_ok-walk.walk (functions_view program.functions) c.in_ok-statements.statements walked (λ q. c.in_ok-statements.ensures q ∙ ap (λ ms. first_in ms q) c.as_slice-6.ensures.value) spot);
+          (statements_given c.in_ok-walk.walk (functions_view program.functions) c.in_ok-statements.statements walked c.in_ok-statements.ensures spot);
       loops = λ spot.
           found (scope_at c.in_ok-loops.loops spot) (locals_at p Loop spot)
-          (loops_given c.in_ok-walk.walk (functions_view program.functions) c.in_ok-loops.loops walked (λ q. c.in_ok-loops.ensures q ∙ ap (λ ms. first_in ms q) c.as_slice-7.ensures.value) spot);
+          (loops_given c.in_ok-walk.walk (functions_view program.functions) c.in_ok-loops.loops walked c.in_ok-loops.ensures spot);
     }

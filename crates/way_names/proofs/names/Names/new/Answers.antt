@@ -1,7 +1,6 @@
--- The maps are made of what the walk notes.
+-- What the walk notes is put in order.
 use Rattle.std.proofs.Common.{◌≡◌, ◌≤◌, ap, length, ◌∙◌, arith}
 use Rattle.c_core.specs.View.{functions_view, program_view}
-use Rattle.way_places.specs.Maps.{first_in}
 use Rattle.way_names.specs.Scopes.{statics_from}
 use Rattle.way_names.specs.Walk.{start, walked_functions}
 use Rattle.way_names.proofs.ObjectLaws.{few_objects}
@@ -19,6 +18,6 @@ invariant_of-result c =
     let walked = c.in_ok-walk.ensures ∙ ap (λ fs. walked_functions start (functions_view fs)) c.as_slice-2.ensures in
     record {
       statics = c.in_ok-statics.ensures ∙ ap (statics_from 0) c.as_slice.ensures;
-      statements = statements_given c.in_ok-walk.walk (functions_view c.args.program.now.functions) c.in_ok-statements.statements walked (λ q. c.in_ok-statements.ensures q ∙ ap (λ ms. first_in ms q) c.as_slice-3.ensures.value);
-      loops = loops_given c.in_ok-walk.walk (functions_view c.args.program.now.functions) c.in_ok-loops.loops walked (λ q. c.in_ok-loops.ensures q ∙ ap (λ ms. first_in ms q) c.as_slice-4.ensures.value);
+      statements = statements_given c.in_ok-walk.walk (functions_view c.args.program.now.functions) c.in_ok-statements.statements walked c.in_ok-statements.ensures;
+      loops = loops_given c.in_ok-walk.walk (functions_view c.args.program.now.functions) c.in_ok-loops.loops walked c.in_ok-loops.ensures;
     }
