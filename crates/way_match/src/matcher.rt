@@ -62,9 +62,9 @@ impl<'a> Matcher<'a> {
     pub fn new(
         alloc: Global,
         bound: &'a Bound,
-        index: &Index<'a>,
+        places: &Index<'a>,
     ) -> Result<Matcher<'a>, OutOfMemory>
-        ensures { IfOk result (λ m. m ≡ begun index.now bound.now) }
+        ensures { IfOk result (λ m. m ≡ begun places.now bound.now) }
     {
         let segments = bound.segments.as_slice();
         let mut room = Vec::new(alloc);
@@ -72,9 +72,9 @@ impl<'a> Matcher<'a> {
             room.push(0)?;
         }
         Ok(Matcher {
-            program: index.program(),
+            program: places.program(),
             bound,
-            prepared: prepare(alloc, index, segments)?,
+            prepared: prepare(alloc, places, segments)?,
             by_place: ByPlace::of(alloc, segments)?,
             avoids: Avoids::of(alloc, segments)?,
             states: States::new(alloc, segments.len(), first_avoids(segments))?,

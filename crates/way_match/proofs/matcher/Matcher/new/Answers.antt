@@ -22,7 +22,7 @@ pub invariant_of-result : goal.invariant_of-result
 invariant_of-result c =
     let segments = c.as_slice-segments.ensures in
     record {
-      prepares = c.in_ok-prepare.ensures ∙ ap (λ (ss : List BoundSegment). all_prepared (program_view c.args.index.now) (each_segment_view ss)) segments
+      prepares = c.in_ok-prepare.ensures ∙ ap (λ (ss : List BoundSegment). all_prepared (program_view c.args.places.now) (each_segment_view ss)) segments
           ∙ ap (λ (p : Program). all_prepared (program_view p) (each_segment_view c.args.bound.now.segments)) (sym c.program.ensures);
       places = λ at. c.in_ok-of.ensures.numbers at ∙ ap (λ (ss : List BoundSegment). moved at 0 (each_segment_view ss)) segments;
       clear = c.in_ok-of.ensures.clear;
