@@ -1,5 +1,5 @@
 -- The state from which each run sets out.
-use Rattle.std.proofs.Common.{◌≡◌, ℕ, zero, suc, ◌+◌, ◌<◌, Bool, true, false, cond, ℤ, pos, List, [], ◌∷◌, ◌++◌, length, map, drop, replicate, slice_get, unwrap_or, IsTrue, refl, sym, ◌∙◌, ap, subst, arith, append-nil, append_assoc, length-append}
+use Rattle.std.proofs.Common.{◌≡◌, ℕ, zero, suc, ◌+◌, ◌<◌, Bool, true, false, cond, ℤ, pos, List, [], ◌∷◌, ◌++◌, length, map, drop, replicate, slice_get, unwrap_or, IsTrue, refl, sym, ◌∙◌, ap, ap₂, subst, arith, append-nil, append_assoc, length-append}
 use Rattle.std.specs.List.{All}
 use Rattle.std.specs.declared.vec.Vec.{Vec}
 use Rattle.std.specs.declared.alloc.Global.{Global}
@@ -30,7 +30,7 @@ use Rattle.sym_state.specs.Standing.{stand, cell_at, draws_at, IsCell, IsState, 
 use Rattle.sym_flow.specs.Ways.{Became}
 use Rattle.sym_flow.proofs.Around.{same_became}
 use Rattle.sym_flow.proofs.Becoming.{became_then, became_as}
-use Rattle.sym_whole.specs.Starting.{with_more, IsFirst}
+use Rattle.sym_whole.specs.Starting.{at_start, with_more, IsFirst}
 
 -- ---- lists of cells
 all_front : {A : Type 0} (P : A → Type 0) (xs ys : List A) → All P (xs ++ ys) → All P xs
@@ -104,33 +104,52 @@ module _ (p : Program) where
   all_dead net b zero h = All-nil (λ b. IsIn net b)
   all_dead net b (suc n) h = All-cons (λ b. IsIn net b) b (replicate n b) h (all_dead net b n h)
 
+  all_false : (f : Bit → Bool) (b : Bit) (n : ℕ) → f b ≡ false → map f (replicate n b) ≡ replicate n false
+  all_false f b zero e = refl
+  all_false f b (suc n) e = ap₂ (λ x xs. x ∷ xs) e (all_false f b n e)
+
+  -- a first bit, and others
+  abbrev pub first_bits : Bit → Bit → ℕ → List Bit
+  first_bits here never zero = []
+  first_bits here never (suc n) = here ∷ replicate n never
+
   none_marked : (f : Bit → Bool) (b : Bit) (n : ℕ) → f b ≡ false → map f (replicate n b) ≡ marks 0 n
   none_marked f b zero e = refl
   none_marked f b (suc n) e = ap (λ z. z ∷ map f (replicate n b)) e ∙ ap (λ z. false ∷ z) (none_marked f b n e)
+
+  -- of this many segments none is completed: the first bit is true, and all others are false
+  pub none_before : (net : List NetNode) (n : ℕ) (here never : Bit) (bits : List Bit) → Means net here (λ v. true) → Means net never (λ v. false) → bits ≡ first_bits here never n
+      → AreIn net bits × ((v : ℕ → Bool) → map (holds v net) bits ≡ at_start n)
+  none_before net zero here never bits h m e = rw e (All-nil (λ b. IsIn net b), λ v. refl)
+  none_before net (suc n) here never bits h m e =
+      rw e (
+        All-cons (λ b. IsIn net b) here (replicate n never) h.inside (all_dead net never n m.inside),
+        λ v. ap₂ (λ x xs. x ∷ xs) (h.is v) (all_false (holds v net) never n (m.is v)),
+      )
 
   one_constant : (net : List NetNode) → net ≡ Constant true ∷ [] → (count_ands net ≡ 0) × (count_inputs net ≡ 0)
   unfolding count_ands count_inputs
   one_constant net e = (ap count_ands e, ap count_inputs e)
 
   -- without cells
-  pub bare_state : (net : List NetNode) (here never : Bit) (given : Bits) (failing completed : Vec Bit Global) (cells : Vec SymCell Global) (sites : Vec DrawSite Global) (n : ℕ) → net ≡ Constant true ∷ [] → Means net here (λ v. true) → Means net never (λ v. false)
-      → Reads p.model Int net given.bits (λ v. pos 0) → failing.items ≡ replicate n never → completed.items ≡ [] → cells.items ≡ [] → sites.items ≡ []
+  pub bare_state : (net : List NetNode) (here never : Bit) (given : Bits) (failing completed : Vec Bit Global) (cells : Vec SymCell Global) (sites : Vec DrawSite Global) (n k : ℕ) → net ≡ Constant true ∷ [] → Means net here (λ v. true) → Means net never (λ v. false)
+      → Reads p.model Int net given.bits (λ v. pos 0) → failing.items ≡ replicate n never → AreIn net completed.items × ((v : ℕ → Bool) → map (holds v net) completed.items ≡ at_start k) → cells.items ≡ [] → sites.items ≡ []
       → IsState p (record { net = net; live = here; broken = never; again = never; gave = never; result = Int; given = given; failing = failing; completed = completed; cells = cells; sites = sites })
-  bare_state net here never given failing completed cells sites n e l m g f o c s = record {
+  bare_state net here never given failing completed cells sites n k e l m g f o c s = record {
     live = l.inside;
     broken = m.inside;
     again = m.inside;
     gave = m.inside;
     given = g.bits_in;
     failing = rw f (all_dead net never n m.inside);
-    completed = rw o (All-nil (λ b. IsIn net b));
+    completed = o.0;
     cells = rw c (All-nil (IsCell p net));
     sites = rw (s, (one_constant net e).1) refl;
   }
 
-  pub first_is : (s0 s : Sym) (n : ℕ) → s0.net ≡ Constant true ∷ [] → Means s0.net s0.live (λ v. true) → Means s0.net s0.broken (λ v. false) → s0.again ≡ s0.broken → s0.gave ≡ s0.broken → s0.failing.items ≡ replicate n s0.broken → s0.completed.items ≡ [] → s0.cells.items ≡ [] → s0.sites.items ≡ []
-      → Became p 0 s0 s (λ v. with_more (first_cells p)) → IsFirst p n s
-  first_is s0 s n e l m a g f o c d x =
+  pub first_is : (s0 s : Sym) (n k : ℕ) → s0.net ≡ Constant true ∷ [] → Means s0.net s0.live (λ v. true) → Means s0.net s0.broken (λ v. false) → s0.again ≡ s0.broken → s0.gave ≡ s0.broken → s0.failing.items ≡ replicate n s0.broken → AreIn s0.net s0.completed.items × ((v : ℕ → Bool) → map (holds v s0.net) s0.completed.items ≡ at_start k) → s0.cells.items ≡ [] → s0.sites.items ≡ []
+      → Became p 0 s0 s (λ v. with_more (first_cells p)) → IsFirst p n k s
+  first_is s0 s n k e l m a g f o c d x =
       let none = one_constant s0.net e in
       record {
         fits = x.fits;
@@ -144,7 +163,7 @@ module _ (p : Program) where
           };
           cells = λ v. ap (λ z. z.cells) (x.is v) ∙ ap (λ z. map (cell_at p v s0.net) z ++ first_cells p) c;
           draws = λ v. ap (λ z. z.draws) (x.is v) ∙ ap (draws_at p v s0.net) d;
-          completed = λ v. ap (λ z. z.completed) (x.is v) ∙ ap (map (holds v s0.net)) o;
+          completed = λ v. ap (λ z. z.completed) (x.is v) ∙ o.1 v;
         };
         no_gates = omega (arith, ap count_ands x.added.is, count_ands-append s0.net x.added.more, none.0, x.added.gates);
         no_inputs = omega (arith, ap count_inputs x.added.is, inputs-append s0.net x.added.more, none.1, x.added.feeds);

@@ -8,6 +8,6 @@ end_runs-requires-clause-fits c =
     fits_after (program_view c.args.program.now) c.args.sym.now c.convert_bits.new.net c.one_bits.new.net c.one_bits.new.net c.requires.fits c.in_ok-u.ensures.grown c.in_ok-out.ensures.grown (grown_not 0 c.one_bits.new.net)
 
 pub returns : goal.returns
-returns c W d =
-    operate_one_gives (program_view c.args.program.now) c.args.at c.args.op c.args.a c.args.sym.now c.end_runs.new.sym c.args.x.now.bits c.in_ok-u.u.bits c.in_ok-out.out c.convert_bits.new.net c.one_bits.new.net
-    c.promote-ty.result W c.promote-ty.ensures d c.requires.fits c.in_ok-u.ensures.grown c.in_ok-u.ensures.value c.in_ok-out.ensures.grown c.in_ok-out.ensures.value c.in_ok-end_runs.ensures
+returns c W d m =
+    operate_one_gives (program_view c.args.program.now) c.args.at c.args.op c.args.a c.args.sym.now c.end_runs.new.sym c.args.x.now.bits c.in_ok-u.u.bits c.in_ok-out.out c.args.counts c.convert_bits.new.net c.one_bits.new.net
+    c.promote-ty.result W c.promote-ty.ensures d m c.requires.fits c.in_ok-u.ensures.grown c.in_ok-u.ensures.value c.in_ok-out.ensures.grown c.in_ok-out.ensures.value c.in_ok-end_runs.ensures

@@ -1,4 +1,4 @@
-// What a walk reads.
+// A program with its obligations.
 use c_core::Program;
 use c_meaning::{Duty, PlacedInvariant};
 use std::alloc::Global;
@@ -10,9 +10,9 @@ pub struct Obliging<'a> {
     pub duties: &'a [Duty],
 }
 
-/// What a walk over a program reads: the program, and what is judged of it.
+/// A program with its invariants and obligations.
 #[derive(Clone, Copy)]
-pub struct Walk<'a> {
+pub struct Obliged<'a> {
     pub alloc: Global,
     pub program: &'a Program,
     pub mode: Obliging<'a>,

@@ -1,4 +1,4 @@
--- What a walk reads, as contracts see it, and what tests of invariants do.
+-- A program with its obligations, as contracts see it, and what tests of invariants do.
 use Rattle.std.specs.Prelude.{◌≡◌, ◌+◌, ◌<◌, ◌^◌, ℕ, Bool, true, false, List, length}
 use Rattle.std.specs.List.{All}
 use Rattle.c_core.specs.Tree.{Program}
@@ -13,31 +13,31 @@ use Rattle.sym_state.specs.Following.{Follows}
 use Rattle.sym_state.specs.declared.state.Sym.{Sym}
 use Rattle.c_meaning.specs.Placing.{IsInvariant, placed_view}
 use Rattle.sym_weight.specs.Weight.{placed_weight}
-use Rattle.sym_invariants.specs.declared.walk.Walk.{Walk}
+use Rattle.sym_invariants.specs.declared.obliged.Obliged.{Obliged}
 
-abbrev pub program_of : Walk → Program
+abbrev pub program_of : Obliged → Program
 program_of w = program_view w.program.now
 
 -- the invariants in witness order
-abbrev pub invariants_of : Walk → List Placed
+abbrev pub invariants_of : Obliged → List Placed
 invariants_of w = placed_view w.mode.invariants.now
 
 -- what is judged
-abbrev pub mode_of : Walk → Mode
+abbrev pub mode_of : Obliged → Mode
 mode_of w = obliging (program_of w) (invariants_of w)
 
 -- the obligations are the program's, and their numbers have 32 bits
-pub record IsWalk (w : Walk) : Type 0 where
+pub record IsObliged (w : Obliged) : Type 0 where
   pub duties : w.mode.duties.now ≡ Duties (program_of w) (invariants_of w)
   pub numbered : length w.mode.duties.now < 2 ^ 32
   pub invariants : All (IsInvariant (program_of w)) (invariants_of w)
 
 -- no invariant of a loop (true) or a statement (false) is at a place
-abbrev pub NoneStands : Walk → Bool → Spot → Type 0
+abbrev pub NoneStands : Obliged → Bool → Spot → Type 0
 NoneStands w at_loop spot = All (λ x. stands (program_of w) (invariants_of w) at_loop spot x ≡ false) (invariants_of w)
 
 -- ---- of the invariants xs, those of a loop (true) or a statement (false) at a place
-module _ (w : Walk) where
+module _ (w : Obliged) where
   -- the net has room for their tests
   abbrev pub HasRoom : List Placed → Bool → Spot → Sym → Type 0
   HasRoom xs at_loop spot s = length s.net + placed_weight (program_of w) xs at_loop spot < 2 ^ 27
