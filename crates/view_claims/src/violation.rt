@@ -1,4 +1,5 @@
 // A violation sequence: a waypoint that isn't bound, or the given run.
+use crate::seeking::note_seeking;
 use c_core::{Program, Spot};
 use c_meaning::{Choices, End, Run};
 use flow_machine::run_machine;
@@ -158,15 +159,18 @@ fn explain_end(
     let tracker = tracked(alloc, files, program, bound, judged, steps)?;
     count_lines(alloc, &tracker, out)?;
     match judged.run.end {
-        End::Ended => explain_ended(
-            alloc,
-            program,
-            segments_of(witness),
-            &judged.choices,
-            &judged.run,
-            &tracker,
-            out,
-        ),
+        End::Ended => {
+            explain_ended(
+                alloc,
+                program,
+                segments_of(witness),
+                &judged.choices,
+                &judged.run,
+                &tracker,
+                out,
+            )?;
+            note_seeking(alloc, files, judged.run.unfixed, out)
+        }
         End::Undefined(spot) => explain_undefined(alloc, program, judged, spot, out),
         End::Spent => explain_spent(alloc, &tracker, steps, out),
         End::Deep => explain_deep(alloc, &tracker, out),
