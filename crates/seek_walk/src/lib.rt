@@ -1,5 +1,5 @@
-//! What the evaluator of programs gives a search: all runs that seek within a bound, over one net. Only its contract
-//! stands so far; its body answers that memory ran out, and no mode reaches it on main.
+//! What the evaluator of programs gives a search: all runs that seek within a bound, over one net. Its one promise:
+//! under each input the state tells of the run that draws what the input says, and its one failing bit is the hit.
 #![tactic(auto)]
 
 mod walk;

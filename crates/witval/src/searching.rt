@@ -1,6 +1,8 @@
 // The output for a violation sequence where values for its open inputs are wanted.
 ghost use Rattle.std.specs.Prelude.{◌≤◌, IfOk};
+ghost use Rattle.std.specs.List.{All};
 ghost use Rattle.c_core.specs.View.{program_view};
+ghost use Rattle.seek_passes.specs.Passing.{IsSegment};
 ghost use Rattle.way_match.specs.View.{segments_view};
 ghost use Rattle.witval.specs.Searching.{SeeksOnSegments, SeeksValues, TellsSought};
 
@@ -8,6 +10,7 @@ use crate::binding::bind;
 use crate::output::{Output, Searched};
 use crate::refusal::{refuse_bind, refuse_search};
 use c_core::Program;
+use seek_binding::bound_segments_can_be_followed;
 use std::alloc::Global;
 use way_match::Bound;
 use wv_base::OutOfMemory;
@@ -28,6 +31,7 @@ pub fn seek_values(
     requires bounded { conflicts ≤ 1000000 }
     ensures { IfOk result (SeeksValues turns conflicts witness.now program.now) }
 {
+    bound_segments_can_be_followed();
     match bind(alloc, witness, program) {
         Ok(bound) => seek_bound(alloc, program, &bound, turns, conflicts),
         Err(fault) => Ok(Output::Report(refuse_bind(alloc, fault)?)),
@@ -45,6 +49,7 @@ fn seek_bound(
     requires turns { turns ≤ 64 }
     requires some { 1 ≤ conflicts }
     requires bounded { conflicts ≤ 1000000 }
+    requires segments { All (IsSegment (program_view program.now)) (segments_view bound.now) }
     ensures { IfOk result (SeeksOnSegments turns conflicts (program_view program.now) (segments_view bound.now)) }
 {
     match seek(alloc, program, bound, turns, conflicts) {

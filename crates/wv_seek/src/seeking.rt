@@ -1,6 +1,8 @@
 // The search for values.
 ghost use Rattle.std.specs.Prelude.{◌≤◌};
+ghost use Rattle.std.specs.List.{All};
 ghost use Rattle.c_core.specs.View.{program_view};
+ghost use Rattle.seek_passes.specs.Passing.{IsSegment};
 ghost use Rattle.way_match.specs.View.{segments_view};
 ghost use Rattle.wv_seek.specs.Seeking.{SearchAnswers};
 
@@ -23,6 +25,7 @@ pub fn seek(
     conflicts: u64,
 ) -> Result<Sought, SeekFault>
     requires turns { turns ≤ 64 }
+    requires segments { All (IsSegment (program_view program.now)) (segments_view bound.now) }
     requires some { 1 ≤ conflicts }
     requires bounded { conflicts ≤ 1000000 }
     ensures { SearchAnswers conflicts (program_view program.now) (segments_view bound.now) turns result }

@@ -1,6 +1,8 @@
 // All runs within a bound, as one bit of a net.
 ghost use Rattle.std.specs.Prelude.{◌≡◌, ◌≤◌, ◌∷◌, [], IfOk, length};
+ghost use Rattle.std.specs.List.{All};
 ghost use Rattle.c_core.specs.View.{program_view};
+ghost use Rattle.seek_passes.specs.Passing.{IsSegment};
 ghost use Rattle.seek_walk.specs.Whole.{IsLightToSeek};
 ghost use Rattle.way_match.specs.View.{segments_view};
 ghost use Rattle.wv_seek.specs.Seeking.{IsUnrolled, UnrollsTo};
@@ -31,6 +33,7 @@ fn hit(failing: &[Bit]) -> Bit
 // The net of a program that isn't too heavy.
 fn made(alloc: Global, program: &Program, bound: &Bound, turns: u32) -> Result<Reach, OutOfMemory>
     requires turns { turns ≤ 64 }
+    requires segments { All (IsSegment (program_view program.now)) (segments_view bound.now) }
     requires light { IsLightToSeek (program_view program.now) (segments_view bound.now) turns }
     ensures { IfOk result (IsUnrolled (program_view program.now) (segments_view bound.now) turns) }
 {
@@ -57,7 +60,8 @@ pub fn unroll(
     bound: &Bound,
     turns: u32,
 ) -> Result<Reach, SeekFault>
-    requires { turns ≤ 64 }
+    requires turns { turns ≤ 64 }
+    requires segments { All (IsSegment (program_view program.now)) (segments_view bound.now) }
     ensures { UnrollsTo (program_view program.now) (segments_view bound.now) turns result }
 {
     match weigh(alloc, program, bound, turns)? {
