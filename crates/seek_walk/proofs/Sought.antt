@@ -8,7 +8,7 @@ use Rattle.seek_mode.specs.SeekingMode.{the_hit, seeking_mode}
 use Rattle.seek_mode.specs.SeekingScale.{CostsAtMost}
 use Rattle.seek_weight.specs.SeekWeight.{SeekWeight, SeekBits}
 use Rattle.seek_walk.specs.Whole.{IsLightToSeek, IsWholeSought}
-use Rattle.sym_eval.specs.Whole.{IsLight, IsWhole}
+use Rattle.sym_eval.specs.Whole.{weight_of_main, bits_of_main, IsLight, IsWhole}
 use Rattle.sym_meaning.specs.Judged.{judged}
 use Rattle.sym_state.specs.declared.state.Sym.{Sym}
 use Rattle.sym_whole.specs.Deciding.{Decides}
@@ -27,14 +27,20 @@ as_many (x ∷ xs) = ap suc (as_many xs)
 
 -- main's body costs no more than it weighs
 module _ (p : Program) (ss : List BoundSegment) (k : ℕ) (cost : CostsAtMost p ss k k p.main) where
+  main_costs : weight_of_main p (seeking_mode p ss k) k ≤ SeekWeight p ss k
+  main_costs = cost.nodes
+
+  main_draws : bits_of_main p (seeking_mode p ss k) k ≤ SeekBits p k
+  main_draws = cost.bits
+
   pub light_enough : SeekBits p k ≤ SeekWeight p ss k → IsLightToSeek p ss k → IsLight p (seeking_mode p ss k) k
-  light_enough drawn light = omega (arith, cost.nodes, cost.bits, drawn, light)
+  light_enough drawn light = omega (arith, main_costs, main_draws, drawn, light)
 
   pub is_whole_sought : {n : ℕ} {s : Sym} → n ≡ length ss → IsWhole p (seeking_mode p ss k) k (at_start n) s → IsWholeSought p ss k s
   is_whole_sought {n} {s} many h = record {
     fits = h.fits;
     fine = h.fine;
     decides = subst (λ before. Decides (the_hit ∷ []) p (first_cells p) before s (run_main p (judged p (seeking_mode p ss k)) (suc k) true)) (ap at_start many ∙ none_before ss) h.decides;
-    gates = omega (arith, h.gates, cost.nodes);
-    feeds = omega (arith, h.feeds, cost.bits);
+    gates = omega (arith, h.gates, main_costs);
+    feeds = omega (arith, h.feeds, main_draws);
   }

@@ -41,8 +41,8 @@ pub fn sought(
 {
     runs_that_seek_cost_their_weight_at_most();
     draws_are_light();
+    let count = small(bound.segments.len())?;
     let segments = bound.segments.as_slice();
-    let count = small(segments.len())?;
     let walk = Walk {
         alloc,
         program,

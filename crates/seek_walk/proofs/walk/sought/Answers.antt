@@ -1,4 +1,4 @@
-use Rattle.std.proofs.Common.{◌≡◌, ◌∙◌, [], ◌∷◌, List, length, refl, sym, ap, subst}
+use Rattle.std.proofs.Common.{◌∙◌, sym, subst}
 use Rattle.std.specs.List.{All}
 use Rattle.c_core.specs.View.{program_view}
 use Rattle.seek_mode.specs.SeekingMode.{seeking_mode}
@@ -27,6 +27,6 @@ returns c =
     let ss = segments_view c.args.bound.now in
     let k = c.args.turns in
     let cost = c.runs_that_seek_cost_their_weight_at_most.ensures p ss k k p.main in
-    let many = c.in_ok-count.ensures ∙ ap length c.as_slice-segments.ensures ∙ sym (as_many c.args.bound.now.segments.items) in
+    let many = c.in_ok-count.ensures ∙ c.len.ensures ∙ sym (as_many c.args.bound.now.segments) in
     is_whole_sought p ss k many
     (subst (λ xs. IsWhole p (seeking_mode p (each_segment_view xs) k) k (at_start c.in_ok-count.count) c.in_ok-sym.sym) c.as_slice-segments.ensures c.in_ok-sym.ensures)
