@@ -28,10 +28,10 @@ fn small(count: usize) -> Result<u32, OutOfMemory>
 
 /// The state after main's body, which stands for all runs that seek within a bound on turns and calls: its one failing
 /// bit is the hit.
-pub fn sought(
+pub fn sought<'a>(
     alloc: Global,
-    program: &Program,
-    bound: &Bound,
+    program: &'a Program,
+    bound: &'a Bound,
     turns: u32,
 ) -> Result<Sym, OutOfMemory>
     requires turns { turns ≤ 64 }
