@@ -20,8 +20,23 @@ int main() {
 }
 ";
 
+const GIVEN_OR_NOT: &str = "\
+void reach_error() { }
+_Bool __VERIFIER_nondet_bool();
+int maybe(_Bool gives) {
+  if (gives) {
+    return 7;
+  }
+}
+int main() {
+  maybe(__VERIFIER_nondet_bool());
+  reach_error();
+  return 0;
+}
+";
+
 /// The programs, each with segments about it.
-pub const CASES: [Case; 4] = [
+pub const CASES: [Case; 6] = [
     Case {
         name: "recursion",
         property: UnreachCall,
@@ -96,6 +111,26 @@ int main() {
         parts: &[
             (&[], (FunctionEnter, 7, None, None)),
             (&[], (Target, 11, None, None)),
+        ],
+        sought: &[0],
+    },
+    Case {
+        name: "a value that is given",
+        property: UnreachCall,
+        source: GIVEN_OR_NOT,
+        parts: &[
+            (&[], (FunctionReturn, 9, Some(33), Some("\\result <= 7"))),
+            (&[], (Target, 10, None, None)),
+        ],
+        sought: &[1],
+    },
+    Case {
+        name: "a value that isn't given",
+        property: UnreachCall,
+        source: GIVEN_OR_NOT,
+        parts: &[
+            (&[], (FunctionReturn, 9, Some(33), Some("\\result != 7"))),
+            (&[], (Target, 10, None, None)),
         ],
         sought: &[0],
     },

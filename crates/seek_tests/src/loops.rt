@@ -20,7 +20,7 @@ int main() {
 ";
 
 /// The programs, each with segments about it.
-pub const CASES: [Case; 7] = [
+pub const CASES: [Case; 8] = [
     Case {
         name: "a count",
         property: UnreachCall,
@@ -189,5 +189,35 @@ int main() {
             (&[], (Target, 5, None, None)),
         ],
         sought: &[0, 1],
+    },
+    Case {
+        name: "a loop without a test",
+        property: UnreachCall,
+        source: "\
+void reach_error() { }
+_Bool __VERIFIER_nondet_bool();
+int main() {
+  int n = 0;
+  for (;;) {
+    n++;
+    if (__VERIFIER_nondet_bool()) {
+      break;
+    }
+    if (n == 3) {
+      return 0;
+    }
+  }
+  if (n == 2) {
+    reach_error();
+  }
+  return 0;
+}
+",
+        parts: &[
+            (&[], (Branching, 7, None, Some("false"))),
+            (&[], (Branching, 7, None, Some("true"))),
+            (&[], (Target, 15, None, None)),
+        ],
+        sought: &[0, 1, 1],
     },
 ];
