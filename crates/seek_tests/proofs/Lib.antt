@@ -1,1 +1,2 @@
 mod FewWaypoints
+mod Followed

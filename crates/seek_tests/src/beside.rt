@@ -58,13 +58,17 @@ fn is_alike(told: &Told, watched: &Watched, is_whole: bool) -> bool {
     }
 }
 
-// All inputs of a net are tried.
+// All inputs of a net are tried, where there are few; more count as a difference.
 fn count(alloc: Global, case: &Unrolled, is_whole: bool) -> Result<Count, OutOfMemory> {
     let mut count = Count {
         sought: 0,
         differing: 0,
     };
-    let inputs = case.reach.net.inputs().min(MOST_INPUTS);
+    let inputs = case.reach.net.inputs();
+    if inputs > MOST_INPUTS {
+        count.differing = 1;
+        return Ok(count);
+    }
     for number in 0..(1u64 << inputs) {
         let input = digits(alloc, number, inputs)?;
         let told = told_by_net(alloc, case.program.model, &case.reach, &input)?;
