@@ -6,7 +6,7 @@ use Rattle.seek_passes.specs.Passing.{IsSegment}
 use Rattle.sym_eval.specs.Whole.{IsLight, IsWhole}
 use Rattle.sym_whole.specs.Starting.{at_start}
 use Rattle.way_match.specs.View.{each_segment_view, segments_view}
-use Rattle.seek_walk.proofs.Sought.{as_many, light_enough, is_whole_sought}
+use Rattle.seek_walk.proofs.WholeRuns.{as_many, light_enough, is_whole_sought}
 use Rattle.seek_walk.proofs.walk.sought.Goals as goal
 
 pub whole-requires-clause-walk : goal.whole-requires-clause-walk
