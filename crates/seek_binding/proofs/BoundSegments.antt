@@ -1,5 +1,5 @@
 -- Segments that are bound can be followed.
-use Rattle.std.proofs.Common.{◌≡◌, ℕ, Bool, true, false, cond, IsTrue, List, [], ◌∷◌, Option, Some, None, unwrap_or, Result, Ok, Err, refl, sym, ap, subst}
+use Rattle.std.proofs.Common.{◌≡◌, ℕ, Bool, true, false, cond, List, [], ◌∷◌, Option, Some, None, unwrap_or, Result, Ok, Err, refl, sym, ap, subst}
 use Rattle.std.proofs.lemmas.List.Elements.{All-from_recursion}
 use Rattle.std.specs.List.{All, AllByRecursion}
 use Rattle.c_core.specs.Operators.{is_comparison}
@@ -13,7 +13,7 @@ use Rattle.c_parser.specs.Witness.{compares}
 use Rattle.c_tokens.specs.declared.token.Punct.{Punct}
 use Rattle.c_tokens.specs.declared.token.Punct.TheVariants as sign
 use Rattle.seek_passes.specs.Passing.{IsPoint, IsSegment}
-use Rattle.way_bind.specs.Binding.{AreBound, AreBoundTo, Binds, BindsAssumption, BindsBranching, BindsEntry, BindsKind, BindsPoint, BindsReturn, BindsTested, WherePlaced, branching_by, is_suitable, place_named, segments_of, target_at, text_of}
+use Rattle.way_bind.specs.Binding.{AreBound, AreBoundTo, Binds, BindsAssumption, BindsBranching, BindsEntry, BindsKind, BindsPoint, BindsReturn, BindsTested, WherePlaced, branching_by, is_suitable, place_named, segments_of, text_of}
 use Rattle.way_bind.specs.Ways.{way_at}
 use Rattle.way_bind.specs.declared.fault.Unbound.{Unbound}
 use Rattle.way_invariants.proofs.TypedTests.{test_fits}
