@@ -7,7 +7,9 @@ use Rattle.c_core.specs.declared.number.IntType.{IntType}
 use Rattle.c_core.specs.declared.number.Spot.{Spot}
 use Rattle.c_core.specs.declared.tree.Callee.{Callee}
 use Rattle.c_core.specs.declared.tree.Callee.TheVariants.{Defined, Exit, Input, ReachError, Abort}
+use Rattle.c_meaning.specs.Changed.{changed_by}
 use Rattle.c_meaning.specs.Duties.{node_may_overflow}
+use Rattle.c_meaning.specs.Meaning.{ForLoop}
 use Rattle.c_meaning.specs.Objects.{type_of, type_of_object}
 use Rattle.sym_weight.specs.Table.{statement_weight, expression_weight, tested, stored, returned, passed, params_of, passed_to_exit, bits_of_object, node_work, node_bits, chooses}
 use Rattle.seek_weight.specs.SeekWeight as weight
@@ -142,7 +144,7 @@ module _ (p : Program) (k spare : ℕ) (C : Cost) (W : Count) (w : ℕ → ℕ �
       form at (DoWhile b e) = looped at _ (cost.control p C at e) (cost.statement p C result b) (weight.control p W k w at e) (weight.statement p W k w result b) (control at e) (statement b)
       form at (For i e s b) =
           let rest : spare + (cost.expression_if p C s + cost.statement p C result b) ≤ weight.expression_if p W k w s + weight.statement p W k w result b = omega (arith, expression_if s, statement b) in
-          let all = looped at _ (cost.control_if p C at e) (cost.expression_if p C s + cost.statement p C result b) (weight.control_if p W k w at e) (weight.expression_if p W k w s + weight.statement p W k w result b) (control_if at e) rest in
+          let all = looped at (changed_by p (ForLoop e s b)) (cost.control_if p C at e) (cost.expression_if p C s + cost.statement p C result b) (weight.control_if p W k w at e) (weight.expression_if p W k w s + weight.statement p W k w result b) (control_if at e) rest in
           omega (arith, first i, all)
       form at Break = omega arith
       form at Continue = omega arith
@@ -188,7 +190,7 @@ module _ (p : Program) (ss : List BoundSegment) (k : ℕ) where
     body = omega arith;
     risk = omega arith;
     head = λ at os. refl;
-    turns = λ t r. ap (λ z. suc k * t + k * z) (omega arith);
+    turns = λ t r. let e : r ≡ 0 + r = omega arith in ap (λ z. suc k * t + k * z) e;
   }
 
   -- the functions that are called, one depth deeper each
