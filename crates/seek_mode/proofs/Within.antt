@@ -1,5 +1,5 @@
 -- By the scale of runs that seek no part costs more than it weighs, and none draws more bits.
-use Rattle.std.proofs.Common.{◌≡◌, ℕ, zero, suc, ◌+◌, ◌*◌, ◌≤◌, Bool, true, false, cond, List, [], ◌∷◌, length, refl, ap, arith, Option, Some, None, slice_get}
+use Rattle.std.proofs.Common.{◌≡◌, ℕ, zero, suc, ◌+◌, ◌*◌, ◌≤◌, Bool, true, false, cond, List, [], ◌∷◌, refl, ap, arith, Option, Some, None, slice_get}
 use Rattle.std.proofs.Math.Nat.{mul-le-mul_left}
 use Rattle.c_core.specs.Tree.{Exp, Expr, Node, Const, Var, Index, Unary, Cast, Step, Binary, Logic, Choose, Comma, Assign, Call, Exps, NoExp, MoreExp, Init, Absent, One, Many, Rows, Names, NoName, MoreName, First, NoFirst, FirstExp, FirstNames, Stm, Stmt, Form, Empty, Do, Declare, Block, If, While, DoWhile, For, Break, Continue, Return, Label, Switch, Else, NoElse, OrElse, Stms, NoStm, MoreStm, MoreCase, Function, Program}
 use Rattle.c_core.specs.Typing.{labels_in}
@@ -11,7 +11,7 @@ use Rattle.c_meaning.specs.Changed.{changed_by}
 use Rattle.c_meaning.specs.Duties.{node_may_overflow}
 use Rattle.c_meaning.specs.Meaning.{ForLoop}
 use Rattle.c_meaning.specs.Objects.{type_of, type_of_object}
-use Rattle.sym_weight.specs.Table.{statement_weight, expression_weight, tested, stored, returned, passed, params_of, passed_to_exit, bits_of_object, node_work, node_bits, chooses}
+use Rattle.sym_weight.specs.Table.{statement_weight, expression_weight, tested, stored, returned, passed_to_exit, bits_of_object, node_work, node_bits, chooses}
 use Rattle.seek_weight.specs.SeekWeight as weight
 use Rattle.seek_weight.specs.SeekWeight.{Count, count_in, weights}
 use Rattle.seek_weight.specs.Tolls.{AStatement, ATest, ACall}
