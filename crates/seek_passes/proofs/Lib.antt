@@ -6,4 +6,4 @@ mod Named
 mod Several
 mod Told
 mod Failing
-mod Paying
+pub mod Paying

@@ -1916,8 +1916,8 @@ loops::turns-end-requires-clause-room t c =
     let none : c.args.left ≡ 0 = search rules in
     last_test_room p W n gives c.args.at (subst (λ r. TurnsReady p W n gives r c.args.at c.args.sym.now l) none c.requires.ready) c.in_ok-last_test.ensures
 
-pub loops::turns-returns-then-not-left : goal.loops::turns-returns-then-not-left
-loops::turns-returns-then-not-left t c =
+pub loops::turns-returns-then-left-eq0 : goal.loops::turns-returns-then-left-eq0
+loops::turns-returns-then-left-eq0 t c =
     let w = c.args.walk.now in
     let p = program_of w in
     let W = mode_of w in
@@ -1936,7 +1936,7 @@ loops::turns-turn-requires t c =
     let n = c.args.depth in
     let gives = c.args.gives in
     let l = loop_of (form_view c.args.f.now) in
-    let more : c.args.left ≡ suc (c.args.left - 1) = omega (arith, c.if-left.false) in
+    let more : c.args.left ≡ suc (c.args.left - 1) = omega (arith, c.if-left-eq0.false) in
     (omega (arith, c.decreases, ap (λ r. weight_of_turns p W n gives r c.args.at l) more), (c.requires.walk, turn_first p W n gives c.args.at (subst (λ r. TurnsReady p W n gives r c.args.at c.args.sym.now l) more c.requires.ready)))
 
 pub loops::turns-turns-requires : goal.loops::turns-turns-requires
@@ -1947,7 +1947,7 @@ loops::turns-turns-requires t c =
     let n = c.args.depth in
     let gives = c.args.gives in
     let l = loop_of (form_view c.args.f.now) in
-    let more : c.args.left ≡ suc (c.args.left - 1) = omega (arith, c.if-left.false) in
+    let more : c.args.left ≡ suc (c.args.left - 1) = omega (arith, c.if-left-eq0.false) in
     (omega (arith, c.decreases, more, ap (λ r. weight_of_turns p W n gives r c.args.at l) more), (c.requires.walk, turns_next p W n gives c.args.at (subst (λ r. TurnsReady p W n gives r c.args.at c.args.sym.now l) more c.requires.ready) c.in_ok-turn.ensures))
 
 pub loops::turns-returns : goal.loops::turns-returns
@@ -1958,7 +1958,7 @@ loops::turns-returns t c =
     let n = c.args.depth in
     let gives = c.args.gives in
     let l = loop_of (form_view c.args.f.now) in
-    let more : c.args.left ≡ suc (c.args.left - 1) = omega (arith, c.if-left.false) in
+    let more : c.args.left ≡ suc (c.args.left - 1) = omega (arith, c.if-left-eq0.false) in
     subst (λ r. TurnsDo p W n gives r c.args.at l c.args.sym.now c.turns.new.sym) (sym more) (turns_more p W n gives c.args.at (c.args.left - 1) l c.in_ok-turn.ensures c.in_ok-turns.ensures)
 
 pub loops::all_turns-turns-requires : goal.loops::all_turns-turns-requires
@@ -2022,12 +2022,12 @@ loops::all_turns-returns t c =
     (all_done p ss k n gives c.args.at l c.start_loop-kept.result c.len-cells.result ready c.start_loop-kept.ensures.kept (c.len-cells.ensures ∙ count) c.start_loop-kept.ensures.became done c.in_ok-end_loop.ensures)
 
 -- ---- a loop, as its mode does it
-pub loops::loop_scope-one_turn-requires-in-Obliges : goal.loops::loop_scope-one_turn-requires-in-Obliges
-loops::loop_scope-one_turn-requires-in-Obliges t c =
+pub loops::loop_scope-one_turn-requires : goal.loops::loop_scope-one_turn-requires
+loops::loop_scope-one_turn-requires t c =
     (omega (arith, c.decreases), (c.requires.walk, c.in-Obliges.is, c.requires.ready))
 
-pub loops::loop_scope-all_turns-requires-in-Seeks : goal.loops::loop_scope-all_turns-requires-in-Seeks
-loops::loop_scope-all_turns-requires-in-Seeks t c =
+pub loops::loop_scope-all_turns-requires : goal.loops::loop_scope-all_turns-requires
+loops::loop_scope-all_turns-requires t c =
     (omega (arith, c.decreases), (c.requires.walk, c.in-Seeks.is, c.requires.ready))
 
 pub loops::for_scope-first-requires : goal.loops::for_scope-first-requires

@@ -2,8 +2,8 @@ use Rattle.std.proofs.Common.{refl}
 use Rattle.sym_walk.proofs.Hooking.{obliged_walk, obliged_duty, seeks_duty}
 use Rattle.sym_walk.proofs.violations.around.Goals as goal
 
-pub around-requires-in-Obliges : goal.around-requires-in-Obliges
-around-requires-in-Obliges c = obliged_walk c.args.walk.now c.in-Obliges.mode c.in-Obliges.is c.requires
+pub around-requires : goal.around-requires
+around-requires c = obliged_walk c.args.walk.now c.in-Obliges.mode c.in-Obliges.is c.requires
 
 pub returns-clause-duty-in-Obliges : goal.returns-clause-duty-in-Obliges
 returns-clause-duty-in-Obliges c = obliged_duty c.args.walk.now c.in-Obliges.mode c.in-Obliges.is c.around.result c.around.ensures.duty
