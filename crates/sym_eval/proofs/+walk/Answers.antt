@@ -1973,7 +1973,7 @@ loops::all_turns-turns-requires t c =
     let ready = subst (λ m. LoopReady p (mode_by w m) n gives c.args.at c.args.sym.now l) c.requires.judging c.requires.ready in
     let within = subst (λ m. turn_glue * k + weight_of_turns p (mode_by w m) n gives k c.args.at l ≤ weight_of_loop p (mode_by w m) n gives c.args.at l) (sym c.requires.judging) (turns_within p ss k n gives c.args.at l) in (
       omega (arith, c.decreases, within),
-      (c.requires.walk, subst (λ m. TurnsReady p (mode_by w m) n gives k c.args.at c.start_loop.new.sym l) (sym c.requires.judging) (all_ready p ss k n gives c.args.at l ready c.start_loop-kept.ensures.became)),
+      (c.requires.walk, subst (λ m. TurnsReady p (mode_by w m) n gives k c.args.at c.start_loop-outer.new.sym l) (sym c.requires.judging) (all_ready p ss k n gives c.args.at l ready c.start_loop-outer.ensures.became)),
     )
 
 pub loops::all_turns-end_loop-requires-clause-fits : goal.loops::all_turns-end_loop-requires-clause-fits
@@ -1990,7 +1990,7 @@ loops::all_turns-end_loop-requires-clause-kept_in t c =
     let ss = segments_of c.args.mode in
     let k = c.args.mode.turns in
     let ready = subst (λ m. LoopReady p (mode_by w m) n gives c.args.at c.args.sym.now l) c.requires.judging c.requires.ready in
-    stays_in p (mode_of w) n gives c.start_loop-kept.result c.args.sym.now.broken c.start_loop-kept.ensures.kept ready.fits.broken c.start_loop-kept.ensures.became c.in_ok-turns.ensures
+    stays_in p (mode_of w) n gives c.start_loop-outer.result c.args.sym.now.broken c.start_loop-outer.ensures.kept ready.fits.broken c.start_loop-outer.ensures.became c.in_ok-turns.ensures
 
 pub loops::all_turns-end_loop-requires-clause-room : goal.loops::all_turns-end_loop-requires-clause-room
 loops::all_turns-end_loop-requires-clause-room t c =
@@ -2002,8 +2002,8 @@ loops::all_turns-end_loop-requires-clause-room t c =
     let ss = segments_of c.args.mode in
     let k = c.args.mode.turns in
     let ready = subst (λ m. LoopReady p (mode_by w m) n gives c.args.at c.args.sym.now l) c.requires.judging c.requires.ready in
-    let done = subst (λ m. TurnsDo p (mode_by w m) n gives k c.args.at l c.start_loop.new.sym c.turns.new.sym) c.requires.judging c.in_ok-turns.ensures in
-    let room = all_room p ss k n gives c.args.at l ready c.start_loop-kept.ensures.became done in
+    let done = subst (λ m. TurnsDo p (mode_by w m) n gives k c.args.at l c.start_loop-outer.new.sym c.turns.new.sym) c.requires.judging c.in_ok-turns.ensures in
+    let room = all_room p ss k n gives c.args.at l ready c.start_loop-outer.ensures.became done in
     omega (arith, room)
 
 pub loops::all_turns-returns : goal.loops::all_turns-returns
@@ -2017,9 +2017,9 @@ loops::all_turns-returns t c =
     let k = c.args.mode.turns in
     let ready = subst (λ m. LoopReady p (mode_by w m) n gives c.args.at c.args.sym.now l) c.requires.judging c.requires.ready in
     let count : vec_len c.args.sym.now.cells ≡ length c.args.sym.now.cells.items = search rules in
-    let done = subst (λ m. TurnsDo p (mode_by w m) n gives k c.args.at l c.start_loop.new.sym c.turns.new.sym) c.requires.judging c.in_ok-turns.ensures in
+    let done = subst (λ m. TurnsDo p (mode_by w m) n gives k c.args.at l c.start_loop-outer.new.sym c.turns.new.sym) c.requires.judging c.in_ok-turns.ensures in
     subst (λ m. LoopDoes p (mode_by w m) n gives c.args.at l c.args.sym.now c.end_loop.new.sym) (sym c.requires.judging)
-    (all_done p ss k n gives c.args.at l c.start_loop-kept.result c.len-cells.result ready c.start_loop-kept.ensures.kept (c.len-cells.ensures ∙ count) c.start_loop-kept.ensures.became done c.in_ok-end_loop.ensures)
+    (all_done p ss k n gives c.args.at l c.start_loop-outer.result c.len-cells.result ready c.start_loop-outer.ensures.kept (c.len-cells.ensures ∙ count) c.start_loop-outer.ensures.became done c.in_ok-end_loop.ensures)
 
 -- ---- a loop, as its mode does it
 pub loops::loop_scope-one_turn-requires : goal.loops::loop_scope-one_turn-requires
