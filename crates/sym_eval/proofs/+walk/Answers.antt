@@ -21,7 +21,7 @@ use Rattle.sym_exprs.proofs.Typed.{unary_parts, cast_parts, binary_parts, comma_
 use Rattle.sym_exprs.proofs.Forms.{first_ready, next_ready, wanted, unary_side, unary_step, binary_sides, binary_step, void_values, cast_side, cast_step, comma_values}
 use Rattle.sym_exprs.proofs.Choosing.{kept_in, where_ready, where_values, logic_first, logic_where, logic_second, logic_bits, logic_step, pick_first, branched, branch_room, pick_yes, pick_yes_value, pick_no, pick_no_value, pick_last, pick_step, void_no, void_step}
 use Rattle.sym_exprs.proofs.Assigning.{assign_target, step_target, assign_value, replace_sides, replace_step, update_sides, update_last, update_step, step_sides, step_last, step_step}
-use Rattle.sym_exprs.proofs.Calls.{site_of, input_values, reach_values, abort_values, exit_ready, exit_room, exit_values}
+use Rattle.sym_exprs.proofs.Calls.{site_of, input_values, reach_values, abort_values, exit_ready, exit_values}
 use Rattle.sym_walk.specs.Walking.{program_of, mode_of}
 use Rattle.sym_eval.specs.Targets.{finding, finding_in, storing, Found}
 use Rattle.sym_eval.proofs.Nodes.{as_node, as_call, logic_alike, reach_alike, one_argument, one_counted}
@@ -511,6 +511,35 @@ pub expressions::call-returns-in-Defined : goal.expressions::call-returns-in-Def
 expressions::call-returns-in-Defined t c =
     as_call (program_of c.args.walk.now) (mode_of c.args.walk.now) c.args.depth c.args.at c.args.sym.now c.call_defined.new.sym (use_of c.args.used) c.args.e.now.spot c.args.e.now.ty (Call c.args.callee (exprs_view c.args.args.now) c.args.close) (Call (Defined c.in-Defined.f) (exprs_view c.args.args.now) c.args.close) c.call_defined.result (ap (λ k. Call k (exprs_view c.args.args.now) c.args.close) c.in-Defined.is) c.call_defined.ensures
 
+pub expressions::call-tell_enter-requires-clause-room : goal.expressions::call-tell_enter-requires-clause-room
+expressions::call-tell_enter-requires-clause-room t c =
+    omega (arith, c.requires.ready.room)
+
+pub expressions::call-input-requires-clause-room : goal.expressions::call-input-requires-clause-room
+expressions::call-input-requires-clause-room t c =
+    omega (arith, (longer_by c.in_ok-tell_enter-in-Input.ensures.added).1, c.requires.ready.room)
+
+pub expressions::call-tell_value-requires-clause-fits : goal.expressions::call-tell_value-requires-clause-fits
+expressions::call-tell_value-requires-clause-fits t c =
+    (c.in_ok-r-in-Input.ensures (mode_of c.args.walk.now)).follows.fits
+
+pub expressions::call-tell_value-requires-clause-bits_in : goal.expressions::call-tell_value-requires-clause-bits_in
+expressions::call-tell_value-requires-clause-bits_in t c =
+    (c.in_ok-r-in-Input.ensures (mode_of c.args.walk.now)).bits_in
+
+pub expressions::call-tell_value-requires-clause-room : goal.expressions::call-tell_value-requires-clause-room
+expressions::call-tell_value-requires-clause-room t c =
+    let ready = subst (λ k. Ready (program_of c.args.walk.now) (mode_of c.args.walk.now) c.args.depth c.args.at c.args.sym.now (Expr c.args.e.now.spot c.args.e.now.ty (Call k (exprs_view c.args.args.now) c.args.close))) c.in-Input.is c.requires.ready in
+    omega (arith, (longer_by c.in_ok-tell_enter-in-Input.ensures.added).1, (longer_by (c.in_ok-r-in-Input.ensures (mode_of c.args.walk.now)).follows.added).1, ready.room)
+
+pub expressions::call-reach-requires-clause-room : goal.expressions::call-reach-requires-clause-room
+expressions::call-reach-requires-clause-room t c =
+    omega (arith, (longer_by c.in_ok-tell_enter-in-ReachError.ensures.added).1, c.requires.ready.room)
+
+pub expressions::call-end-requires-clause-room : goal.expressions::call-end-requires-clause-room
+expressions::call-end-requires-clause-room t c =
+    omega (arith, (longer_by c.in_ok-tell_enter-in-Abort.ensures.added).1, c.requires.ready.room)
+
 pub expressions::call-returns-in_ok-r-in-Input : goal.expressions::call-returns-in_ok-r-in-Input
 expressions::call-returns-in_ok-r-in-Input t c =
     subst (λ k. Values (program_of c.args.walk.now) (mode_of c.args.walk.now) c.args.depth c.args.at (use_of c.args.used) (Expr c.args.e.now.spot c.args.e.now.ty (Call k (exprs_view c.args.args.now) c.args.close)) c.args.sym.now c.tell_value.new.sym c.in_ok-r-in-Input.r.bits) (sym c.in-Input.is)
@@ -548,12 +577,19 @@ expressions::exit-eval-requires t c =
     let ready = subst (λ k. Ready (program_of c.args.walk.now) (mode_of c.args.walk.now) c.args.depth c.args.at c.args.sym.now (Expr c.args.e.now.spot c.args.e.now.ty (Call Exit k c.args.close))) one c.requires.ready in
     (omega (arith, c.decreases, ap (λ k. weight_of (program_of c.args.walk.now) (mode_of c.args.walk.now) c.args.depth (Expr c.args.e.now.spot c.args.e.now.ty (Call Exit k c.args.close))) one), (c.requires.walk, exit_ready (program_of c.args.walk.now) (mode_of c.args.walk.now) c.args.depth c.args.at c.args.e.now.spot c.args.close c.args.e.now.ty (expr_view c.index-args-0.result) ready))
 
+pub expressions::exit-tell_enter-requires-clause-room : goal.expressions::exit-tell_enter-requires-clause-room
+expressions::exit-tell_enter-requires-clause-room t c =
+    let counted = exit_counts (program_of c.args.walk.now) c.args.e.now.spot c.args.close c.args.e.now.ty (exprs_view c.args.args.now) c.requires.ready.types in
+    let one : exprs_view c.args.args.now ≡ MoreExp (expr_view c.index-args-0.result) NoExp = one_argument c.args.args.now c.index-args-0.result counted ∙ ap (λ x. MoreExp (expr_view x) NoExp) (sym c.index-args-0.is) in
+    let ready = subst (λ k. Ready (program_of c.args.walk.now) (mode_of c.args.walk.now) c.args.depth c.args.at c.args.sym.now (Expr c.args.e.now.spot c.args.e.now.ty (Call Exit k c.args.close))) one c.requires.ready in
+    omega (arith, (longer_by c.in_ok-r.ensures.follows.added).1, ready.room)
+
 pub expressions::exit-end-requires-clause-room : goal.expressions::exit-end-requires-clause-room
 expressions::exit-end-requires-clause-room t c =
     let counted = exit_counts (program_of c.args.walk.now) c.args.e.now.spot c.args.close c.args.e.now.ty (exprs_view c.args.args.now) c.requires.ready.types in
     let one : exprs_view c.args.args.now ≡ MoreExp (expr_view c.index-args-0.result) NoExp = one_argument c.args.args.now c.index-args-0.result counted ∙ ap (λ x. MoreExp (expr_view x) NoExp) (sym c.index-args-0.is) in
     let ready = subst (λ k. Ready (program_of c.args.walk.now) (mode_of c.args.walk.now) c.args.depth c.args.at c.args.sym.now (Expr c.args.e.now.spot c.args.e.now.ty (Call Exit k c.args.close))) one c.requires.ready in
-    exit_room (program_of c.args.walk.now) (mode_of c.args.walk.now) c.args.depth c.args.at c.args.e.now.spot c.args.close c.args.e.now.ty (expr_view c.index-args-0.result) ready c.in_ok-r.ensures
+    omega (arith, (longer_by c.in_ok-r.ensures.follows.added).1, (longer_by c.in_ok-tell_enter.ensures.added).1, ready.room)
 
 pub expressions::exit-returns : goal.expressions::exit-returns
 expressions::exit-returns t c =
@@ -2265,6 +2301,10 @@ calls::call_defined-evals-requires t c =
       omega (arith, c.decreases),
       (c.requires.walk, arguments_ready (program_of w) (mode_of w) c.args.depth c.args.at (use_of c.args.used) c.args.spot c.args.close c.args.ty c.args.function (exprs_view c.args.args.now) c.requires.ready),
     )
+
+pub calls::call_defined-tell_enter-requires-clause-room : goal.calls::call_defined-tell_enter-requires-clause-room
+calls::call_defined-tell_enter-requires-clause-room t c =
+    omega (arith, (longer_by c.in_ok-arguments.ensures.follows.added).1, c.requires.ready.room)
 
 pub calls::call_defined-call_found-requires : goal.calls::call_defined-call_found-requires
 calls::call_defined-call_found-requires t c =
