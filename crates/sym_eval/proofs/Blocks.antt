@@ -1,5 +1,5 @@
 -- Statements by their forms, and the statements of a block.
-use Rattle.std.proofs.Common.{◌≡◌, ℕ, ◌+◌, ◌*◌, ◌≤◌, ◌<◌, ◌^◌, Bool, true, false, ℤ, List, [], length, take, get_or, refl, sym, ◌∙◌, ap, subst, arith, Option, Some, None, IsTrue}
+use Rattle.std.proofs.Common.{◌≡◌, ℕ, ◌+◌, ◌*◌, ◌≤◌, ◌<◌, ◌^◌, Bool, true, ℤ, List, [], length, take, get_or, refl, sym, ◌∙◌, ap, subst, arith, Option, Some, None, IsTrue}
 use Rattle.c_core.specs.Tree.{Program, Exp, Names, Stm, Stmt, Form, Empty, Do, Declare, Block, If, Break, Continue, Return, Label, Else, OrElse, NoElse, Stms}
 use Rattle.c_core.specs.Parts.{type_of as type_if, every_statement, every_statement_else}
 use Rattle.c_core.specs.Types.{fit, width_of}
@@ -25,7 +25,6 @@ use Rattle.circuits.specs.Numbers.{typed, AreTyped}
 use Rattle.circuits.specs.Outcome.{conversion_cost}
 use Rattle.sym_state.specs.declared.state.Sym.{Sym}
 use Rattle.sym_state.specs.Standing.{Stand, IsState, Turned}
-use Rattle.sym_state.specs.Following.{Follows}
 use Rattle.sym_state.proofs.Nets.{longer_by, in_added}
 use Rattle.sym_values.specs.Valuing.{Reckoned}
 use Rattle.sym_flow.specs.Ways.{Became, cut_to, leaving, going_again, going_back, giving}

@@ -29,7 +29,7 @@ use Rattle.sym_state.specs.declared.state.Around.{Around}
 use Rattle.sym_state.specs.Standing.{Stand, stand, IsState, Kept, IsHere, Turned, with_live}
 use Rattle.sym_state.specs.Telling.{telling}
 use Rattle.sym_state.specs.Following.{left_of, Follows, AreOf, IsNumber}
-use Rattle.sym_state.proofs.Nets.{added_then, holds_added, in_added}
+use Rattle.sym_state.proofs.Nets.{added_then, longer_by, holds_added, in_added}
 use Rattle.sym_state.proofs.Telling.{told_follows, follows_map}
 use Rattle.sym_state.proofs.Composed.{follows_then, follows_as, net_follows}
 use Rattle.sym_values.specs.Valuing.{where_of, IsDutyAt, Decided}

@@ -195,6 +195,9 @@ module _ (p : Program) (W : Mode) (n : ℕ) (at : Around) (want : Use) (spot clo
     same_passed : set_cost p (params_of (slice_get p.functions f)) xs ≡ passed p (params_of (slice_get p.functions f)) es
     same_passed = set_passed p (params_of (slice_get p.functions f)) xs es x.types
 
+    called_weight : weight_of_call p W n f xs ≡ call_weight + nodes_in p W.scale n (passed p (params_of (slice_get p.functions f)) es) f
+    called_weight = ap (λ k. call_weight + nodes_in p W.scale n k f) same_passed
+
     pub call_ready : {k : Sym} → Turned p (W.scale.enters close) 0 m k (λ v. telling W (Enter close)) → CallReady p W n close f needed ty k xs
     call_ready ev = record {
       fits = ev.fits;
@@ -203,9 +206,6 @@ module _ (p : Program) (W : Mode) (n : ℕ) (at : Around) (want : Use) (spot clo
       void = λ e. en ∙ void_of want ty e;
       room = omega (arith, called_weight, h.room, (longer_by x.follows.added).1, (longer_by ev.added).1);
     }
-
-    called_weight : weight_of_call p W n f xs ≡ call_weight + nodes_in p W.scale n (passed p (params_of (slice_get p.functions f)) es) f
-    called_weight = ap (λ k. call_weight + nodes_in p W.scale n k f) same_passed
 
     -- what the call costs after its arguments is less than the expression
     pub call_within : nodes_in p W.scale n (set_cost p (params_of (slice_get p.functions f)) xs) f + 64 ≤ weight_of p W n (Expr spot ty (Call (Defined f) es close))

@@ -51,7 +51,7 @@ use Rattle.sym_flow.specs.Ways.{Became, fresh_broken, behind_loop}
 use Rattle.sym_flow.proofs.Bodies.{out_of_loop, broken_runs}
 use Rattle.sym_flow.proofs.Branching.{arms_run}
 use Rattle.sym_flow.proofs.Statements.{follows_runs, runs_then, runs_as, skip_runs}
-use Rattle.sym_exprs.specs.Evaluating.{weight_of, bits_of}
+use Rattle.sym_exprs.specs.Evaluating.{bits_of}
 use Rattle.sym_exprs.proofs.Costs.{conversion_costs}
 use Rattle.sym_exprs.proofs.Typed.{has_one}
 use Rattle.sym_scale.specs.Cost as cost
@@ -124,7 +124,7 @@ defaults_more Default ls = refl
 counted : (ls : List ArmLabel) → defaults ls ≡ count_by is_default ls
 counted ls = is_count_by defaults is_default refl defaults_more ls
 
-own_cost : (m : DataModel) (ty : IntType) (ls : List ArmLabel) → cases_cost m ty ls + 6 * length ls ≤ labels_weight m ty ls + 5 * defaults ls
+own_cost : (m : DataModel) (ty : IntType) (ls : List ArmLabel) → cases_cost m ty ls + 6 * length ls ≤ labels_weight m ty ls + 6 * defaults ls
 own_cost m ty [] = omega arith
 own_cost m ty (Case c ∷ ls) = omega (arith, own_cost m ty ls)
 own_cost m ty (Default ∷ ls) = omega (arith, own_cost m ty ls)

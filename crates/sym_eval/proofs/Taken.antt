@@ -15,7 +15,6 @@ use Rattle.circuits.specs.declared.net.Bit.{Bit}
 use Rattle.circuits.specs.Net.{holds}
 use Rattle.seek_mode.specs.SeekingMode as seeking
 use Rattle.seek_mode.specs.SeekingMode.{seeking_mode}
-use Rattle.sym_flow.specs.Leaving.{Runs}
 use Rattle.sym_flow.specs.Ways.{Became, fresh_broken, behind_loop}
 use Rattle.sym_flow.proofs.Bodies.{out_of_loop, broken_runs}
 use Rattle.sym_flow.proofs.Looping.{stops_runs}

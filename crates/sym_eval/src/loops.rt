@@ -287,9 +287,9 @@ fn all_turns(
         (loop_of (form_view f.now)) sym.old sym.new) }
 {
     let cells = sym.cells.len();
-    let kept = start_loop(sym, walk.program);
+    let outer = start_loop(sym, walk.program);
     turns(walk, sym, depth, gives, at, f, mode.turns)?;
-    end_loop(sym, walk.program, kept, cells)?;
+    end_loop(sym, walk.program, outer, cells)?;
     Ok(())
 }
 

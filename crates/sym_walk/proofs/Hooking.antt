@@ -39,7 +39,6 @@ use Rattle.sym_state.proofs.Telling.{told_as, told_follows, untold_turned}
 use Rattle.sym_state.proofs.Turning.{turned_then}
 use Rattle.sym_values.specs.Valuing.{IsDutyAt, CountsWhere, Decided}
 use Rattle.way_match.specs.Points.{BoundSegment}
-use Rattle.sym_walk.specs.declared.walk.Judging.{Judging}
 use Rattle.sym_walk.specs.declared.walk.Judging.TheVariants.{Obliges, Seeks}
 use Rattle.sym_walk.specs.declared.walk.Seeking.{Seeking}
 use Rattle.sym_walk.specs.declared.walk.Walk.{Walk}

@@ -21,7 +21,7 @@ use Rattle.sym_exprs.proofs.Typed.{unary_parts, cast_parts, binary_parts, comma_
 use Rattle.sym_exprs.proofs.Forms.{first_ready, next_ready, wanted, unary_side, unary_step, binary_sides, binary_step, void_values, cast_side, cast_step, comma_values}
 use Rattle.sym_exprs.proofs.Choosing.{kept_in, where_ready, where_values, logic_first, logic_where, logic_second, logic_bits, logic_step, pick_first, branched, branch_room, pick_yes, pick_yes_value, pick_no, pick_no_value, pick_last, pick_step, void_no, void_step}
 use Rattle.sym_exprs.proofs.Assigning.{assign_target, step_target, assign_value, replace_sides, replace_step, update_sides, update_last, update_step, step_sides, step_last, step_step}
-use Rattle.sym_exprs.proofs.Calls.{site_of, input_values, reach_values, abort_values, exit_ready, exit_room, exit_values}
+use Rattle.sym_exprs.proofs.Calls.{site_of, input_values, reach_values, abort_values, exit_ready, exit_values}
 use Rattle.sym_walk.specs.Walking.{program_of, mode_of}
 use Rattle.sym_eval.specs.Targets.{finding, finding_in, storing, Found}
 use Rattle.sym_eval.proofs.Nodes.{as_node, as_call, logic_alike, reach_alike, one_argument, one_counted}
@@ -511,6 +511,35 @@ pub expressions::call-returns-in-Defined : goal.expressions::call-returns-in-Def
 expressions::call-returns-in-Defined t c =
     as_call (program_of c.args.walk.now) (mode_of c.args.walk.now) c.args.depth c.args.at c.args.sym.now c.call_defined.new.sym (use_of c.args.used) c.args.e.now.spot c.args.e.now.ty (Call c.args.callee (exprs_view c.args.args.now) c.args.close) (Call (Defined c.in-Defined.f) (exprs_view c.args.args.now) c.args.close) c.call_defined.result (ap (λ k. Call k (exprs_view c.args.args.now) c.args.close) c.in-Defined.is) c.call_defined.ensures
 
+pub expressions::call-tell_enter-requires-clause-room : goal.expressions::call-tell_enter-requires-clause-room
+expressions::call-tell_enter-requires-clause-room t c =
+    omega (arith, c.requires.ready.room)
+
+pub expressions::call-input-requires-clause-room : goal.expressions::call-input-requires-clause-room
+expressions::call-input-requires-clause-room t c =
+    omega (arith, (longer_by c.in_ok-tell_enter-in-Input.ensures.added).1, c.requires.ready.room)
+
+pub expressions::call-tell_value-requires-clause-fits : goal.expressions::call-tell_value-requires-clause-fits
+expressions::call-tell_value-requires-clause-fits t c =
+    (c.in_ok-r-in-Input.ensures (mode_of c.args.walk.now)).follows.fits
+
+pub expressions::call-tell_value-requires-clause-bits_in : goal.expressions::call-tell_value-requires-clause-bits_in
+expressions::call-tell_value-requires-clause-bits_in t c =
+    (c.in_ok-r-in-Input.ensures (mode_of c.args.walk.now)).bits_in
+
+pub expressions::call-tell_value-requires-clause-room : goal.expressions::call-tell_value-requires-clause-room
+expressions::call-tell_value-requires-clause-room t c =
+    let ready = subst (λ k. Ready (program_of c.args.walk.now) (mode_of c.args.walk.now) c.args.depth c.args.at c.args.sym.now (Expr c.args.e.now.spot c.args.e.now.ty (Call k (exprs_view c.args.args.now) c.args.close))) c.in-Input.is c.requires.ready in
+    omega (arith, (longer_by c.in_ok-tell_enter-in-Input.ensures.added).1, (longer_by (c.in_ok-r-in-Input.ensures (mode_of c.args.walk.now)).follows.added).1, ready.room)
+
+pub expressions::call-reach-requires-clause-room : goal.expressions::call-reach-requires-clause-room
+expressions::call-reach-requires-clause-room t c =
+    omega (arith, (longer_by c.in_ok-tell_enter-in-ReachError.ensures.added).1, c.requires.ready.room)
+
+pub expressions::call-end-requires-clause-room : goal.expressions::call-end-requires-clause-room
+expressions::call-end-requires-clause-room t c =
+    omega (arith, (longer_by c.in_ok-tell_enter-in-Abort.ensures.added).1, c.requires.ready.room)
+
 pub expressions::call-returns-in_ok-r-in-Input : goal.expressions::call-returns-in_ok-r-in-Input
 expressions::call-returns-in_ok-r-in-Input t c =
     subst (λ k. Values (program_of c.args.walk.now) (mode_of c.args.walk.now) c.args.depth c.args.at (use_of c.args.used) (Expr c.args.e.now.spot c.args.e.now.ty (Call k (exprs_view c.args.args.now) c.args.close)) c.args.sym.now c.tell_value.new.sym c.in_ok-r-in-Input.r.bits) (sym c.in-Input.is)
@@ -548,12 +577,19 @@ expressions::exit-eval-requires t c =
     let ready = subst (λ k. Ready (program_of c.args.walk.now) (mode_of c.args.walk.now) c.args.depth c.args.at c.args.sym.now (Expr c.args.e.now.spot c.args.e.now.ty (Call Exit k c.args.close))) one c.requires.ready in
     (omega (arith, c.decreases, ap (λ k. weight_of (program_of c.args.walk.now) (mode_of c.args.walk.now) c.args.depth (Expr c.args.e.now.spot c.args.e.now.ty (Call Exit k c.args.close))) one), (c.requires.walk, exit_ready (program_of c.args.walk.now) (mode_of c.args.walk.now) c.args.depth c.args.at c.args.e.now.spot c.args.close c.args.e.now.ty (expr_view c.index-args-0.result) ready))
 
+pub expressions::exit-tell_enter-requires-clause-room : goal.expressions::exit-tell_enter-requires-clause-room
+expressions::exit-tell_enter-requires-clause-room t c =
+    let counted = exit_counts (program_of c.args.walk.now) c.args.e.now.spot c.args.close c.args.e.now.ty (exprs_view c.args.args.now) c.requires.ready.types in
+    let one : exprs_view c.args.args.now ≡ MoreExp (expr_view c.index-args-0.result) NoExp = one_argument c.args.args.now c.index-args-0.result counted ∙ ap (λ x. MoreExp (expr_view x) NoExp) (sym c.index-args-0.is) in
+    let ready = subst (λ k. Ready (program_of c.args.walk.now) (mode_of c.args.walk.now) c.args.depth c.args.at c.args.sym.now (Expr c.args.e.now.spot c.args.e.now.ty (Call Exit k c.args.close))) one c.requires.ready in
+    omega (arith, (longer_by c.in_ok-r.ensures.follows.added).1, ready.room)
+
 pub expressions::exit-end-requires-clause-room : goal.expressions::exit-end-requires-clause-room
 expressions::exit-end-requires-clause-room t c =
     let counted = exit_counts (program_of c.args.walk.now) c.args.e.now.spot c.args.close c.args.e.now.ty (exprs_view c.args.args.now) c.requires.ready.types in
     let one : exprs_view c.args.args.now ≡ MoreExp (expr_view c.index-args-0.result) NoExp = one_argument c.args.args.now c.index-args-0.result counted ∙ ap (λ x. MoreExp (expr_view x) NoExp) (sym c.index-args-0.is) in
     let ready = subst (λ k. Ready (program_of c.args.walk.now) (mode_of c.args.walk.now) c.args.depth c.args.at c.args.sym.now (Expr c.args.e.now.spot c.args.e.now.ty (Call Exit k c.args.close))) one c.requires.ready in
-    exit_room (program_of c.args.walk.now) (mode_of c.args.walk.now) c.args.depth c.args.at c.args.e.now.spot c.args.close c.args.e.now.ty (expr_view c.index-args-0.result) ready c.in_ok-r.ensures
+    omega (arith, (longer_by c.in_ok-r.ensures.follows.added).1, (longer_by c.in_ok-tell_enter.ensures.added).1, ready.room)
 
 pub expressions::exit-returns : goal.expressions::exit-returns
 expressions::exit-returns t c =
@@ -1916,8 +1952,8 @@ loops::turns-end-requires-clause-room t c =
     let none : c.args.left ≡ 0 = search rules in
     last_test_room p W n gives c.args.at (subst (λ r. TurnsReady p W n gives r c.args.at c.args.sym.now l) none c.requires.ready) c.in_ok-last_test.ensures
 
-pub loops::turns-returns-then-not-left : goal.loops::turns-returns-then-not-left
-loops::turns-returns-then-not-left t c =
+pub loops::turns-returns-then-left-eq0 : goal.loops::turns-returns-then-left-eq0
+loops::turns-returns-then-left-eq0 t c =
     let w = c.args.walk.now in
     let p = program_of w in
     let W = mode_of w in
@@ -1936,7 +1972,7 @@ loops::turns-turn-requires t c =
     let n = c.args.depth in
     let gives = c.args.gives in
     let l = loop_of (form_view c.args.f.now) in
-    let more : c.args.left ≡ suc (c.args.left - 1) = omega (arith, c.if-left.false) in
+    let more : c.args.left ≡ suc (c.args.left - 1) = omega (arith, c.if-left-eq0.false) in
     (omega (arith, c.decreases, ap (λ r. weight_of_turns p W n gives r c.args.at l) more), (c.requires.walk, turn_first p W n gives c.args.at (subst (λ r. TurnsReady p W n gives r c.args.at c.args.sym.now l) more c.requires.ready)))
 
 pub loops::turns-turns-requires : goal.loops::turns-turns-requires
@@ -1947,7 +1983,7 @@ loops::turns-turns-requires t c =
     let n = c.args.depth in
     let gives = c.args.gives in
     let l = loop_of (form_view c.args.f.now) in
-    let more : c.args.left ≡ suc (c.args.left - 1) = omega (arith, c.if-left.false) in
+    let more : c.args.left ≡ suc (c.args.left - 1) = omega (arith, c.if-left-eq0.false) in
     (omega (arith, c.decreases, more, ap (λ r. weight_of_turns p W n gives r c.args.at l) more), (c.requires.walk, turns_next p W n gives c.args.at (subst (λ r. TurnsReady p W n gives r c.args.at c.args.sym.now l) more c.requires.ready) c.in_ok-turn.ensures))
 
 pub loops::turns-returns : goal.loops::turns-returns
@@ -1958,7 +1994,7 @@ loops::turns-returns t c =
     let n = c.args.depth in
     let gives = c.args.gives in
     let l = loop_of (form_view c.args.f.now) in
-    let more : c.args.left ≡ suc (c.args.left - 1) = omega (arith, c.if-left.false) in
+    let more : c.args.left ≡ suc (c.args.left - 1) = omega (arith, c.if-left-eq0.false) in
     subst (λ r. TurnsDo p W n gives r c.args.at l c.args.sym.now c.turns.new.sym) (sym more) (turns_more p W n gives c.args.at (c.args.left - 1) l c.in_ok-turn.ensures c.in_ok-turns.ensures)
 
 pub loops::all_turns-turns-requires : goal.loops::all_turns-turns-requires
@@ -1973,7 +2009,7 @@ loops::all_turns-turns-requires t c =
     let ready = subst (λ m. LoopReady p (mode_by w m) n gives c.args.at c.args.sym.now l) c.requires.judging c.requires.ready in
     let within = subst (λ m. turn_glue * k + weight_of_turns p (mode_by w m) n gives k c.args.at l ≤ weight_of_loop p (mode_by w m) n gives c.args.at l) (sym c.requires.judging) (turns_within p ss k n gives c.args.at l) in (
       omega (arith, c.decreases, within),
-      (c.requires.walk, subst (λ m. TurnsReady p (mode_by w m) n gives k c.args.at c.start_loop.new.sym l) (sym c.requires.judging) (all_ready p ss k n gives c.args.at l ready c.start_loop-kept.ensures.became)),
+      (c.requires.walk, subst (λ m. TurnsReady p (mode_by w m) n gives k c.args.at c.start_loop-outer.new.sym l) (sym c.requires.judging) (all_ready p ss k n gives c.args.at l ready c.start_loop-outer.ensures.became)),
     )
 
 pub loops::all_turns-end_loop-requires-clause-fits : goal.loops::all_turns-end_loop-requires-clause-fits
@@ -1990,7 +2026,7 @@ loops::all_turns-end_loop-requires-clause-kept_in t c =
     let ss = segments_of c.args.mode in
     let k = c.args.mode.turns in
     let ready = subst (λ m. LoopReady p (mode_by w m) n gives c.args.at c.args.sym.now l) c.requires.judging c.requires.ready in
-    stays_in p (mode_of w) n gives c.start_loop-kept.result c.args.sym.now.broken c.start_loop-kept.ensures.kept ready.fits.broken c.start_loop-kept.ensures.became c.in_ok-turns.ensures
+    stays_in p (mode_of w) n gives c.start_loop-outer.result c.args.sym.now.broken c.start_loop-outer.ensures.kept ready.fits.broken c.start_loop-outer.ensures.became c.in_ok-turns.ensures
 
 pub loops::all_turns-end_loop-requires-clause-room : goal.loops::all_turns-end_loop-requires-clause-room
 loops::all_turns-end_loop-requires-clause-room t c =
@@ -2002,8 +2038,8 @@ loops::all_turns-end_loop-requires-clause-room t c =
     let ss = segments_of c.args.mode in
     let k = c.args.mode.turns in
     let ready = subst (λ m. LoopReady p (mode_by w m) n gives c.args.at c.args.sym.now l) c.requires.judging c.requires.ready in
-    let done = subst (λ m. TurnsDo p (mode_by w m) n gives k c.args.at l c.start_loop.new.sym c.turns.new.sym) c.requires.judging c.in_ok-turns.ensures in
-    let room = all_room p ss k n gives c.args.at l ready c.start_loop-kept.ensures.became done in
+    let done = subst (λ m. TurnsDo p (mode_by w m) n gives k c.args.at l c.start_loop-outer.new.sym c.turns.new.sym) c.requires.judging c.in_ok-turns.ensures in
+    let room = all_room p ss k n gives c.args.at l ready c.start_loop-outer.ensures.became done in
     omega (arith, room)
 
 pub loops::all_turns-returns : goal.loops::all_turns-returns
@@ -2017,17 +2053,17 @@ loops::all_turns-returns t c =
     let k = c.args.mode.turns in
     let ready = subst (λ m. LoopReady p (mode_by w m) n gives c.args.at c.args.sym.now l) c.requires.judging c.requires.ready in
     let count : vec_len c.args.sym.now.cells ≡ length c.args.sym.now.cells.items = search rules in
-    let done = subst (λ m. TurnsDo p (mode_by w m) n gives k c.args.at l c.start_loop.new.sym c.turns.new.sym) c.requires.judging c.in_ok-turns.ensures in
+    let done = subst (λ m. TurnsDo p (mode_by w m) n gives k c.args.at l c.start_loop-outer.new.sym c.turns.new.sym) c.requires.judging c.in_ok-turns.ensures in
     subst (λ m. LoopDoes p (mode_by w m) n gives c.args.at l c.args.sym.now c.end_loop.new.sym) (sym c.requires.judging)
-    (all_done p ss k n gives c.args.at l c.start_loop-kept.result c.len-cells.result ready c.start_loop-kept.ensures.kept (c.len-cells.ensures ∙ count) c.start_loop-kept.ensures.became done c.in_ok-end_loop.ensures)
+    (all_done p ss k n gives c.args.at l c.start_loop-outer.result c.len-cells.result ready c.start_loop-outer.ensures.kept (c.len-cells.ensures ∙ count) c.start_loop-outer.ensures.became done c.in_ok-end_loop.ensures)
 
 -- ---- a loop, as its mode does it
-pub loops::loop_scope-one_turn-requires-in-Obliges : goal.loops::loop_scope-one_turn-requires-in-Obliges
-loops::loop_scope-one_turn-requires-in-Obliges t c =
+pub loops::loop_scope-one_turn-requires : goal.loops::loop_scope-one_turn-requires
+loops::loop_scope-one_turn-requires t c =
     (omega (arith, c.decreases), (c.requires.walk, c.in-Obliges.is, c.requires.ready))
 
-pub loops::loop_scope-all_turns-requires-in-Seeks : goal.loops::loop_scope-all_turns-requires-in-Seeks
-loops::loop_scope-all_turns-requires-in-Seeks t c =
+pub loops::loop_scope-all_turns-requires : goal.loops::loop_scope-all_turns-requires
+loops::loop_scope-all_turns-requires t c =
     (omega (arith, c.decreases), (c.requires.walk, c.in-Seeks.is, c.requires.ready))
 
 pub loops::for_scope-first-requires : goal.loops::for_scope-first-requires
@@ -2265,6 +2301,10 @@ calls::call_defined-evals-requires t c =
       omega (arith, c.decreases),
       (c.requires.walk, arguments_ready (program_of w) (mode_of w) c.args.depth c.args.at (use_of c.args.used) c.args.spot c.args.close c.args.ty c.args.function (exprs_view c.args.args.now) c.requires.ready),
     )
+
+pub calls::call_defined-tell_enter-requires-clause-room : goal.calls::call_defined-tell_enter-requires-clause-room
+calls::call_defined-tell_enter-requires-clause-room t c =
+    omega (arith, (longer_by c.in_ok-arguments.ensures.follows.added).1, c.requires.ready.room)
 
 pub calls::call_defined-call_found-requires : goal.calls::call_defined-call_found-requires
 calls::call_defined-call_found-requires t c =

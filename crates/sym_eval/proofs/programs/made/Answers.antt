@@ -1,6 +1,7 @@
 use Rattle.std.proofs.Common.{rules, ◌∙◌, [], suc, length, sym, subst, ap, arith}
 use Rattle.std.specs.List.{All}
 use Rattle.c_core.specs.View.{program_view}
+use Rattle.c_meaning.specs.Duties.{Duties}
 use Rattle.c_meaning.specs.Placing.{placed_view}
 use Rattle.sym_duties.specs.Promise.{StandsFor}
 use Rattle.sym_meaning.specs.Obliging.{obliging}
@@ -8,7 +9,11 @@ use Rattle.sym_eval.specs.Whole.{IsLight, IsWhole}
 use Rattle.sym_eval.proofs.Wholly.{as_many, light_enough, are_made}
 use Rattle.sym_eval.proofs.programs.made.Goals as goal
 
--- open: names of the goals of `whole`, and of the calls before it
+pub whole-requires-clause-duties : goal.whole-requires-clause-duties
+whole-requires-clause-duties c =
+    let p = program_view c.args.program.now in
+    c.in_ok-count.ensures ∙ c.len.ensures ∙ ap length c.in_ok-list.ensures ∙ ap (λ xs. length (Duties p (placed_view xs))) (sym c.as_slice.ensures)
+
 pub whole-requires-clause-light : goal.whole-requires-clause-light
 whole-requires-clause-light c =
     let p = program_view c.args.program.now in

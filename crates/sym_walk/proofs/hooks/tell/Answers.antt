@@ -9,11 +9,11 @@ returns-in-Obliges c =
     let w = c.args.walk.now in
     untold w c.in-Obliges.mode c.in-Obliges.is (event_cost (program_of w) (mode_of w) c.args.event.now) c.args.sym.now (event_in (program_of w) c.args.sym.now.net c.args.event.now) c.requires.ready.fits
 
-pub follow-requires-clause-segments-in-Seeks : goal.follow-requires-clause-segments-in-Seeks
-follow-requires-clause-segments-in-Seeks c = sought_walk c.args.walk.now c.in-Seeks.mode c.in-Seeks.is c.requires.walk
+pub follow-requires-clause-segments : goal.follow-requires-clause-segments
+follow-requires-clause-segments c = sought_walk c.args.walk.now c.in-Seeks.mode c.in-Seeks.is c.requires.walk
 
-pub follow-requires-clause-ready-in-Seeks : goal.follow-requires-clause-ready-in-Seeks
-follow-requires-clause-ready-in-Seeks c = sought_ready c.args.walk.now c.in-Seeks.mode c.in-Seeks.is c.requires.ready
+pub follow-requires-clause-ready : goal.follow-requires-clause-ready
+follow-requires-clause-ready c = sought_ready c.args.walk.now c.in-Seeks.mode c.in-Seeks.is c.requires.ready
 
 pub returns-in_ok-follow-in-Seeks : goal.returns-in_ok-follow-in-Seeks
 returns-in_ok-follow-in-Seeks c = seeks_told c.args.walk.now c.in-Seeks.mode c.in-Seeks.is c.in_ok-follow-in-Seeks.ensures
