@@ -1,4 +1,4 @@
-use Rattle.std.proofs.Common.{◌∙◌, sym, subst}
+use Rattle.std.proofs.Common.{◌∙◌, refl, sym, subst}
 use Rattle.std.specs.List.{All}
 use Rattle.c_core.specs.View.{program_view}
 use Rattle.seek_mode.specs.SeekingMode.{seeking_mode}
@@ -12,6 +12,10 @@ use Rattle.seek_walk.proofs.walk.sought.Goals as goal
 pub whole-requires-clause-walk : goal.whole-requires-clause-walk
 whole-requires-clause-walk c =
     subst (λ xs. All (IsSegment (program_view c.args.program.now)) (each_segment_view xs)) (sym c.as_slice-segments.ensures) c.requires.segments
+
+-- the hit is the one duty
+pub whole-requires-clause-duties : goal.whole-requires-clause-duties
+whole-requires-clause-duties c = refl
 
 pub whole-requires-clause-light : goal.whole-requires-clause-light
 whole-requires-clause-light c =
