@@ -32,5 +32,5 @@ returns c =
     let k = c.args.turns in
     let cost = c.runs_that_seek_cost_their_weight_at_most.ensures p ss k k p.main in
     let many = c.in_ok-count.ensures ∙ c.len.ensures ∙ sym (as_many c.args.bound.now.segments) in
-    is_whole_sought p ss k many
+    is_whole_sought p ss k cost many
     (subst (λ xs. IsWhole p (seeking_mode p (each_segment_view xs) k) k (at_start c.in_ok-count.count) c.in_ok-sym.sym) c.as_slice-segments.ensures c.in_ok-sym.ensures)
