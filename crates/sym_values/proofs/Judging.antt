@@ -22,7 +22,7 @@ use Rattle.circuits.specs.declared.bits.Outcome.{Outcome}
 use Rattle.circuits.specs.Net.{holds, Grown, IsIn}
 use Rattle.circuits.specs.Numbers.{typed, AreTyped, Reads}
 use Rattle.circuits.specs.Outcome as C
-use Rattle.circuits.proofs.Nets.{grown_then}
+use Rattle.circuits.proofs.Nets.{grown_then, longer}
 use Rattle.sym_state.specs.declared.state.Sym.{Sym}
 use Rattle.sym_state.specs.declared.state.Around.{Around}
 use Rattle.sym_state.specs.Standing.{Stand, stand, IsState, IsHere, Turned, marks, marked, number_of_end, stopped, violated}
@@ -210,3 +210,7 @@ ended_turned p s t n k c o u e i x y = record {
 
 pub fits_after : {i j k : ℕ} (p : Program) (s : Sym) (one two net : List NetNode) → IsState p s → Grown i s.net one → Grown j one two → Grown k two net → IsState p (record s { net = net })
 fits_after {i} {j} {k} p s one two net h f g e = state_grown p (grown_then i (j + k) (i + (j + k)) s.net one net f (grown_then j k (j + k) one two net g e (omega arith)) (omega arith)) h
+
+-- a bit stays in the net
+pub in_after : {i j k : ℕ} (b : Bit) (old one two net : List NetNode) → IsIn old b → Grown i old one → Grown j one two → Grown k two net → IsIn net b
+in_after {i} {j} {k} b old one two net h f g e = omega (arith, (longer i old one f).0, (longer j one two g).0, (longer k two net e).0)

@@ -1,12 +1,16 @@
 use Rattle.std.proofs.Common.{◌≡◌, ◌∙◌, ap}
 use Rattle.c_core.specs.View.{program_view}
 use Rattle.c_core.specs.Operators.{type_for, right_type_for}
-use Rattle.sym_values.proofs.Judging.{fits_after, operate_gives}
+use Rattle.sym_values.proofs.Judging.{fits_after, in_after, operate_gives}
 use Rattle.sym_values.proofs.operators.operate.Goals as goal
 
 pub end_runs-requires-clause-fits : goal.end_runs-requires-clause-fits
 end_runs-requires-clause-fits c =
     fits_after (program_view c.args.program.now) c.args.sym.now c.convert_bits.new.net c.convert_bits-2.new.net c.apply_bits.new.net c.requires.fits c.in_ok-u.ensures.grown c.in_ok-w.ensures.grown c.in_ok-out.ensures.grown
+
+pub end_runs-requires-clause-counts_in : goal.end_runs-requires-clause-counts_in
+end_runs-requires-clause-counts_in c =
+    in_after c.args.counts c.args.sym.now.net c.convert_bits.new.net c.convert_bits-2.new.net c.apply_bits.new.net c.requires.counts_in c.in_ok-u.ensures.grown c.in_ok-w.ensures.grown c.in_ok-out.ensures.grown
 
 pub returns : goal.returns
 returns c W d m =
