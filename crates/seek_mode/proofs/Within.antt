@@ -1,5 +1,5 @@
 -- By the scale of runs that seek no part costs more than it weighs, and none draws more bits.
-use Rattle.std.proofs.Common.{◌≡◌, ℕ, zero, suc, ◌+◌, ◌*◌, ◌≤◌, Bool, true, false, cond, List, [], ◌∷◌, length, refl, ap, arith, Option, Some, None, slice_get}
+use Rattle.std.proofs.Common.{◌≡◌, ℕ, zero, suc, ◌+◌, ◌*◌, ◌≤◌, Bool, true, false, cond, List, [], ◌∷◌, refl, ap, arith, Option, Some, None, slice_get}
 use Rattle.std.proofs.Math.Nat.{mul-le-mul_left}
 use Rattle.c_core.specs.Tree.{Exp, Expr, Node, Const, Var, Index, Unary, Cast, Step, Binary, Logic, Choose, Comma, Assign, Call, Exps, NoExp, MoreExp, Init, Absent, One, Many, Rows, Names, NoName, MoreName, First, NoFirst, FirstExp, FirstNames, Stm, Stmt, Form, Empty, Do, Declare, Block, If, While, DoWhile, For, Break, Continue, Return, Label, Switch, Else, NoElse, OrElse, Stms, NoStm, MoreStm, MoreCase, Function, Program}
 use Rattle.c_core.specs.Typing.{labels_in}
@@ -7,9 +7,11 @@ use Rattle.c_core.specs.declared.number.IntType.{IntType}
 use Rattle.c_core.specs.declared.number.Spot.{Spot}
 use Rattle.c_core.specs.declared.tree.Callee.{Callee}
 use Rattle.c_core.specs.declared.tree.Callee.TheVariants.{Defined, Exit, Input, ReachError, Abort}
+use Rattle.c_meaning.specs.Changed.{changed_by}
 use Rattle.c_meaning.specs.Duties.{node_may_overflow}
+use Rattle.c_meaning.specs.Meaning.{ForLoop}
 use Rattle.c_meaning.specs.Objects.{type_of, type_of_object}
-use Rattle.sym_weight.specs.Table.{statement_weight, expression_weight, tested, stored, returned, passed, params_of, passed_to_exit, bits_of_object, node_work, node_bits, chooses}
+use Rattle.sym_weight.specs.Table.{statement_weight, expression_weight, tested, stored, returned, passed_to_exit, bits_of_object, node_work, node_bits, chooses}
 use Rattle.seek_weight.specs.SeekWeight as weight
 use Rattle.seek_weight.specs.SeekWeight.{Count, count_in, weights}
 use Rattle.seek_weight.specs.Tolls.{AStatement, ATest, ACall}
@@ -142,7 +144,7 @@ module _ (p : Program) (k spare : ℕ) (C : Cost) (W : Count) (w : ℕ → ℕ �
       form at (DoWhile b e) = looped at _ (cost.control p C at e) (cost.statement p C result b) (weight.control p W k w at e) (weight.statement p W k w result b) (control at e) (statement b)
       form at (For i e s b) =
           let rest : spare + (cost.expression_if p C s + cost.statement p C result b) ≤ weight.expression_if p W k w s + weight.statement p W k w result b = omega (arith, expression_if s, statement b) in
-          let all = looped at _ (cost.control_if p C at e) (cost.expression_if p C s + cost.statement p C result b) (weight.control_if p W k w at e) (weight.expression_if p W k w s + weight.statement p W k w result b) (control_if at e) rest in
+          let all = looped at (changed_by p (ForLoop e s b)) (cost.control_if p C at e) (cost.expression_if p C s + cost.statement p C result b) (weight.control_if p W k w at e) (weight.expression_if p W k w s + weight.statement p W k w result b) (control_if at e) rest in
           omega (arith, first i, all)
       form at Break = omega arith
       form at Continue = omega arith
@@ -188,7 +190,7 @@ module _ (p : Program) (ss : List BoundSegment) (k : ℕ) where
     body = omega arith;
     risk = omega arith;
     head = λ at os. refl;
-    turns = λ t r. ap (λ z. suc k * t + k * z) (omega arith);
+    turns = λ t r. let e : r ≡ 0 + r = omega arith in ap (λ z. suc k * t + k * z) e;
   }
 
   -- the functions that are called, one depth deeper each

@@ -138,10 +138,12 @@ fn none_completed(alloc: Global, net: &Net, segments: u32) -> Result<Vec<Bit>, O
     ensures { IfOk result (λ r. AreIn net.now r.items
         × ((v : ℕ → Bool) → map (holds v net.now) r.items ≡ at_start segments)) }
 {
-    let mut completed = vec![in alloc; not(net.yes()); segments as usize]?;
-    if segments > 0 {
-        completed[0] = net.yes();
+    let here = net.yes();
+    let mut completed = vec![in alloc; not(here); segments as usize]?;
+    if segments == 0 {
+        return Ok(completed);
     }
+    completed[0] = here;
     Ok(completed)
 }
 
