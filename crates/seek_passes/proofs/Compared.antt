@@ -103,7 +103,7 @@ module _ (p : Program) (op : BinOp) (common ty : IntType) (comparison : IsTrue (
   room_truth {c} {d} room x = omega (arith, room, (longer_by x.added).1, int_wide p.model)
 
   -- ---- the bit of a comparison: of a value that is converted, and of a constant
-  pub compared_means : {a b d : Sym} {net last : List NetNode} {xs us ws : List Bit} {o : Outcome} {t fine r : Bit} (z : ℤ)
+  pub compared_means : {a b d : Sym} {net last : List NetNode} {us ws : List Bit} {o : Outcome} {t fine r : Bit} (xs : List Bit) (z : ℤ)
       → Reads p.model common a.net ws (λ v. z)
       → Reckoned p (conversion_cost p.model ty common) a b common us (λ v. fit p.model common (typed p.model ty v a.net xs))
       → Grown (binary_cost p.model op common) b.net net
@@ -111,7 +111,7 @@ module _ (p : Program) (op : BinOp) (common ty : IntType) (comparison : IsTrue (
       → Decided p (conversion_cost p.model Int BoolType) (record b { net = net }) d t (λ v. not (is_zero (typed p.model Int v net o.value.bits)))
       → fine ≡ opposite o.undefined → Grown 1 d.net last → Means last r (λ v. holds v d.net t && holds v d.net fine)
       → Decided p (comparison_cost p.model common) a (record d { net = last }) r (λ v. is_true (wrapping (apply_of p.model op common (fit p.model common (typed p.model ty v a.net xs)) z)))
-  compared_means {a} {b} {d} {net} {last} {xs} {us} {ws} {o} {t} {fine} {r} z right left grown given truth e more m =
+  compared_means {a} {b} {d} {net} {last} {us} {ws} {o} {t} {fine} {r} xs z right left grown given truth e more m =
       let first : Turned p (binary_cost p.model op common) 0 b (record b { net = net }) (λ v s. s) = net_turned p b net left.turned.fits grown in
       let final : Turned p 1 0 d (record d { net = last }) (λ v s. s) = net_turned p d last truth.turned.fits more in
       let one = turned_then p (conversion_cost p.model ty common + binary_cost p.model op common) 0 left.turned first (omega arith) (omega arith) in

@@ -97,10 +97,10 @@ module _ (p : Program) where
   given_meets close t false z = refl
 
   -- where a value is given
-  pub given_decided : {a b : Sym} {net : List NetNode} {met gave r : Bit} (close : Spot) (t : ReturnTest) (z : (ℕ → Bool) → ℤ) → IsIn a.net gave → Decided p (test_cost p close t) a b met (λ v. meets p t (type_of_call (call_at p close)) (z v))
+  pub given_decided : {a b : Sym} {net : List NetNode} {met r : Bit} (gave : Bit) (close : Spot) (t : ReturnTest) (z : (ℕ → Bool) → ℤ) → IsIn a.net gave → Decided p (test_cost p close t) a b met (λ v. meets p t (type_of_call (call_at p close)) (z v))
       → Grown 1 b.net net → Means net r (λ v. holds v b.net gave && holds v b.net met)
       → Decided p (test_cost_if p close (Some t)) a (record b { net = net }) r (λ v. meets_at p close (Some t) (given_if (holds v a.net gave) (z v)))
-  given_decided {a} {b} {net} {met} {gave} {r} close t z i d g m = record {
+  given_decided {a} {b} {net} {met} {r} gave close t z i d g m = record {
     turned = turned_then p (test_cost_if p close (Some t)) 0 d.turned (net_turned p b net d.turned.fits g) (omega arith) (omega arith);
     means = means_by net r _ _ (and_of {a = gave} {b = met} m (means_added d.turned.added (own a.net gave i)) d.means) (λ v. given_meets close t (holds v a.net gave) (z v));
   }

@@ -100,23 +100,23 @@ module _ (p : Program) (statement full : Spot) (call : Option Spot) (s : Sym) (s
 
   -- by whether it passes them, which no cell tells
   pub counts_where : (d : Bit) → AreIn s.net s.completed.items → ((cells : List Cell) → true ≡ passed cells) → Counts p (each_segment_view ss) statement full call s (get_or s.completed.items (n - 1) d)
-  counts_where d inside yes W h = record {
+  counts_where d inside all W h = record {
     inside = All-get_or (λ b. IsIn s.net b) s.completed.items (n - 1) d (omega (arith, same, many, some)) inside;
     is = λ v.
         let a = stand p v s in
-        sym (h.counts (Fail statement full call) a.cells a.completed ∙ decided d v a.cells ∙ ap (λ b. b && holds v s.net (get_or s.completed.items (n - 1) d)) (sym (yes a.cells)));
+        sym (h.counts (Fail statement full call) a.cells a.completed ∙ decided d v a.cells ∙ ap (λ b. b && holds v s.net (get_or s.completed.items (n - 1) d)) (sym (all a.cells)));
   }
 
   pub counts_nowhere : (r : Bit) → Means s.net r (λ v. false) → ((cells : List Cell) → false ≡ passed cells) → Counts p (each_segment_view ss) statement full call s r
-  counts_nowhere r m no W h = record {
+  counts_nowhere r m none W h = record {
     inside = m.inside;
     is = λ v.
         let a = stand p v s in
         let d : Bit = record { node = 0; negated = false } in
-        m.is v ∙ sym (h.counts (Fail statement full call) a.cells a.completed ∙ decided d v a.cells ∙ ap (λ b. b && holds v s.net (get_or s.completed.items (n - 1) d)) (sym (no a.cells)));
+        m.is v ∙ sym (h.counts (Fail statement full call) a.cells a.completed ∙ decided d v a.cells ∙ ap (λ b. b && holds v s.net (get_or s.completed.items (n - 1) d)) (sym (none a.cells)));
   }
 
 -- there are no segments
 pub none_counts : (p : Program) (statement full : Spot) (call : Option Spot) (s : Sym) (ss : List Segment) (r : Bit) → length ss ≡ 0 → Means s.net r (λ v. false) → Counts p (each_segment_view ss) statement full call s r
-none_counts p statement full call s [] r h m W g = record { inside = m.inside; is = λ v. m.is v ∙ sym (g.counts (Fail statement full call) (stand p v s).cells (stand p v s).completed) }
+none_counts p statement full call s [] r h m = λ W g. record { inside = m.inside; is = λ v. m.is v ∙ sym (g.counts (Fail statement full call) (stand p v s).cells (stand p v s).completed) }
 none_counts p statement full call s (t ∷ ss) r h m = absurd (omega (arith, h))

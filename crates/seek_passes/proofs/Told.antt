@@ -5,15 +5,15 @@ use Rattle.std.specs.declared.vec.Vec.{Vec}
 use Rattle.std.specs.declared.alloc.Global.{Global}
 use Rattle.std.proofs.lemmas.List.{length-map}
 use Rattle.c_core.specs.Tree.{Program}
+use Rattle.c_meaning.specs.Cells.{Cell}
 use Rattle.c_meaning.specs.declared.run.Event.{Event as RunEvent}
 use Rattle.circuits.specs.declared.net.Bit.{Bit}
 use Rattle.circuits.specs.declared.net.NetNode.{NetNode}
 use Rattle.circuits.specs.Net.{holds}
 use Rattle.seek_events.specs.declared.segment.Passing.{Passing}
 use Rattle.seek_events.specs.Events.{AreAfter, passed_in, values_in}
-use Rattle.seek_events.specs.Laws.{passed_by}
+use Rattle.seek_events.specs.Laws.{passed_by, AreFollowed}
 use Rattle.seek_events.specs.Passed.{Passed, completes, completed_from}
-use Rattle.seek_events.proofs.Segments.{followed}
 use Rattle.seek_meaning.specs.Progress.{completed_after}
 use Rattle.sym_meaning.specs.Mode.{Mode}
 use Rattle.sym_state.specs.declared.state.Sym.{Sym}
@@ -54,7 +54,8 @@ module _ (p : Program) (ss : List BoundSegment) (e : SymEvent) where
       let v : ℕ → Bool = λ k. false in
       omega (arith, length-map b.completed.items (holds v b.net), ap length (bits_before x v), length-map a.completed.items (holds v a.net))
 
-  module _ (a b : Sym) (net : List NetNode) (rs : List Passing) (completed : Vec Bit Global) (x : PassesSegments p e ss a b rs) (y : AreAfter b.net net b.live rs b.completed.items completed.items) (same : length a.completed.items ≡ length ss) where
+  module _ (a b : Sym) (net : List NetNode) (rs : List Passing) (completed : Vec Bit Global) (x : PassesSegments p e ss a b rs) (y : AreAfter b.net net b.live rs b.completed.items completed.items) (same : length a.completed.items ≡ length ss)
+      (followed : (E : RunEvent) (cells : List Cell) (bs : List Bool) → AreFollowed p ss E cells bs) where
     bits_after : (W : Mode) → FollowsSegments p ss W → (v : ℕ → Bool) → values_in net v completed.items ≡ (telling W (event_in p a.net e v) (stand p v a)).completed
     bits_after W h v =
         let s = stand p v a in
@@ -62,7 +63,7 @@ module _ (p : Program) (ss : List BoundSegment) (e : SymEvent) where
         y.values v
         ∙ ap₂ (λ t bs. cond t (completed_from false false (map (passed_in b.net v) rs) bs) bs) (ap (λ s. s.live) (x.turned.is v)) (bits_before x v)
         ∙ ap (λ xs. cond s.live (completed_from false false xs s.completed) s.completed) (x.are v)
-        ∙ ap (λ cs. cond s.live cs s.completed) ((followed p ss E s.cells s.completed).after ∙ sym (h.next E s.cells s.completed))
+        ∙ ap (λ cs. cond s.live cs s.completed) ((followed E s.cells s.completed).after ∙ sym (h.next E s.cells s.completed))
 
     level_after : length completed.items ≡ length b.completed.items
     level_after =

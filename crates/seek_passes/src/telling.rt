@@ -10,7 +10,7 @@ ghost use Rattle.seek_passes.specs.Telling.{Tells};
 use crate::event::SymEvent;
 use crate::segments::passes_segments;
 use c_core::Program;
-use seek_events::after;
+use seek_events::{after, events_are_followed};
 use std::alloc::Global;
 use sym_state::Sym;
 use way_match::BoundSegment;
@@ -31,6 +31,7 @@ pub fn tell(
     ensures { IfOk result (λ r. Tells (program_view program.now) (each_segment_view segments.now) event.now sym.old
         sym.new) }
 {
+    events_are_followed();
     let passings = passes_segments(alloc, program, sym, segments, event)?;
     let here = sym.live;
     let completed = after(

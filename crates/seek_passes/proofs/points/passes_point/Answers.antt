@@ -3,6 +3,7 @@ use Rattle.circuits.specs.Numbers.{typed}
 use Rattle.circuits.proofs.Nets.{means_by}
 use Rattle.sym_state.specs.Standing.{stand}
 use Rattle.way_match.specs.View.{point_view}
+use Rattle.seek_passes.specs.declared.event.SymEvent.TheVariants.{Enter, Branch, Select}
 use Rattle.seek_passes.proofs.Arms.{cases_many}
 use Rattle.seek_passes.proofs.Named.{can_as, passes_as, passes_there}
 use Rattle.seek_passes.proofs.points.passes_point.Goals as goal
@@ -18,7 +19,7 @@ returns-in-Enter c =
     let p = program_view c.args.program.now in
     let x = point_view c.args.point.now in
     let s = c.args.sym.now in
-    passes_as p x c.in-Enter.is (passes_there p _ x s c.known.result c.requires.ready.fits (means_by _ _ _ _ c.known.ensures (λ v. c.enters.ensures p (stand p v s).cells)))
+    passes_as p x c.in-Enter.is (passes_there p (Enter c.in-Enter.at) x s c.known.result c.requires.ready.fits (means_by _ _ _ _ c.known.ensures (λ v. c.enters.ensures p (stand p v s).cells)))
 
 pub at_return-requires-clause-bits_in : goal.at_return-requires-clause-bits_in
 at_return-requires-clause-bits_in c = (can_as (program_view c.args.program.now) (point_view c.args.point.now) c.in-Return.is c.requires.ready).event.bits_in
@@ -40,7 +41,7 @@ returns-in-Branch c =
     let p = program_view c.args.program.now in
     let x = point_view c.args.point.now in
     let s = c.args.sym.now in
-    passes_as p x c.in-Branch.is (passes_there p _ x s c.at_branch.result c.requires.ready.fits (c.at_branch.ensures p (λ v. (stand p v s).cells)))
+    passes_as p x c.in-Branch.is (passes_there p (Branch c.in-Branch.at c.in-Branch.truth) x s c.at_branch.result c.requires.ready.fits (c.at_branch.ensures p (λ v. (stand p v s).cells)))
 
 pub at_switch-requires-clause-cases_in : goal.at_switch-requires-clause-cases_in
 at_switch-requires-clause-cases_in c = (can_as (program_view c.args.program.now) (point_view c.args.point.now) c.in-Select.is c.requires.ready).event.cases_in
@@ -59,5 +60,5 @@ returns-in-Select c =
     let x = point_view c.args.point.now in
     let s = c.args.sym.now in
     let h = (can_as p x c.in-Select.is c.requires.ready).event in
-    passes_as p x c.in-Select.is (passes_there p _ x s c.at_switch.result c.requires.ready.fits
+    passes_as p x c.in-Select.is (passes_there p (Select c.in-Select.spot c.in-Select.ty c.in-Select.value c.in-Select.arms c.in-Select.cases c.in-Select.none) x s c.at_switch.result c.requires.ready.fits
     (c.at_switch.ensures (λ v. typed p.model c.in-Select.ty v s.net c.in-Select.value.now.bits) h.cases_are h.none_is p (λ v. (stand p v s).cells)))

@@ -46,5 +46,5 @@ pub returns : goal.returns
 returns c =
     let fits : SFits w128 c.args.constant = search rules in
     let right = rw (to_z-of_z w128 c.args.constant fits) at c.in_ok-right.ensures in
-    compared_means (program_view c.args.program.now) c.args.op c.args.common c.args.ty c.requires.comparison c.requires.promoted _ right c.in_ok-left.ensures c.in_ok-out.ensures.grown c.in_ok-out.ensures.value c.in_ok-truth.ensures c.not.ensures
+    compared_means (program_view c.args.program.now) c.args.op c.args.common c.args.ty c.requires.comparison c.requires.promoted c.args.bits.now.bits _ right c.in_ok-left.ensures c.in_ok-out.ensures.grown c.in_ok-out.ensures.value c.in_ok-truth.ensures c.not.ensures
     c.in_ok-met.ensures.grown c.in_ok-met.ensures.value

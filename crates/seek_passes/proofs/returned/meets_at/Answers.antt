@@ -1,4 +1,4 @@
-use Rattle.std.proofs.Common.{◌≡◌, ◌+◌, ◌<◌, ◌^◌, length, subst, sym, ap, arith, Some}
+use Rattle.std.proofs.Common.{◌≡◌, ℕ, ℤ, Bool, ◌+◌, ◌<◌, ◌^◌, length, subst, sym, ap, arith, Some}
 use Rattle.c_core.specs.View.{program_view}
 use Rattle.circuits.specs.Net.{holds}
 use Rattle.circuits.specs.Numbers.{typed}
@@ -32,14 +32,14 @@ pub returns-in_ok-both-in-Some : goal.returns-in_ok-both-in-Some
 returns-in_ok-both-in-Some c =
     let p = program_view c.args.program.now in
     let s = c.args.sym.now in
-    let z = λ v. typed p.model c.args.ty v s.net c.args.bits.now.bits in
+    let z : (ℕ → Bool) → ℤ = λ v. typed p.model c.args.ty v s.net c.args.bits.now.bits in
     subst (λ t. Decided p (test_cost_if p c.args.close (test_view_if t)) s (record c.meets.new.sym { net = c.and.new.self }) c.in_ok-both-in-Some.both (λ v. passing.meets_at p c.args.close (test_view_if t) (given_if (holds v s.net c.args.gave) (z v)))) (sym c.in-Some.is)
-    (given_decided p c.args.close (test_view c.in-Some.test) z c.requires.gave_in c.in_ok-met-in-Some.ensures c.in_ok-both-in-Some.ensures.grown c.in_ok-both-in-Some.ensures.value)
+    (given_decided p c.args.gave c.args.close (test_view c.in-Some.test) z c.requires.gave_in c.in_ok-met-in-Some.ensures c.in_ok-both-in-Some.ensures.grown c.in_ok-both-in-Some.ensures.value)
 
 pub returns-in-None : goal.returns-in-None
 returns-in-None c =
     let p = program_view c.args.program.now in
     let s = c.args.sym.now in
-    let z = λ v. typed p.model c.args.ty v s.net c.args.bits.now.bits in
+    let z : (ℕ → Bool) → ℤ = λ v. typed p.model c.args.ty v s.net c.args.bits.now.bits in
     subst (λ t. Decided p (test_cost_if p c.args.close (test_view_if t)) s s c.yes.result (λ v. passing.meets_at p c.args.close (test_view_if t) (given_if (holds v s.net c.args.gave) (z v)))) (sym c.in-None.is)
     (none_decided p s c.yes.result c.args.close (λ v. given_if (holds v s.net c.args.gave) (z v)) c.requires.fits c.yes.ensures)

@@ -29,8 +29,8 @@ loop-segment-preserved c =
     let i = c.loop-segment.segment-index in
     let ss = c.args.segments.now in
     let s = c.segment-item.result in
-    subst (λ ts. PassesSegments p e ts c.args.sym.now c.passes_segment.new.sym _) (sym (segments_more ss i s c.loop-segment-test.true c.segment-item.is))
-    (segments_next p e (each_segment_view (take i ss)) (segment_view s) c.args.sym.now c.loop-segment.sym c.passes_segment.new.sym c.loop-segment.all.items _ c.in_ok-one.one c.requires.ready.event c.loop-segment.invariant c.in_ok-one.ensures
+    subst (λ ts. PassesSegments p e ts c.args.sym.now c.passes_segment.new.sym c.push.new.self.items) (sym (segments_more ss i s c.loop-segment-test.true c.segment-item.is))
+    (segments_next p e (each_segment_view (take i ss)) (segment_view s) c.args.sym.now c.loop-segment.sym c.passes_segment.new.sym c.loop-segment.all.items c.push.new.self.items c.in_ok-one.one c.requires.ready.event c.loop-segment.invariant c.in_ok-one.ensures
     c.in_ok-push.ensures.items)
 
 pub returns : goal.returns

@@ -45,4 +45,4 @@ returns c =
     let b = c.passes_segments.new.sym in
     let one = subst (λ xs. AreAfter b.net c.after.new.net b.live xs c.as_slice-2.result.now c.in_ok-completed.completed.items) c.as_slice.ensures.value c.in_ok-completed.ensures in
     let two = subst (λ bs. AreAfter b.net c.after.new.net b.live c.in_ok-passings.passings.items bs c.in_ok-completed.completed.items) c.as_slice-2.ensures.value one in
-    told p ss c.args.event.now c.args.sym.now b c.after.new.net c.in_ok-passings.passings.items c.in_ok-completed.completed c.in_ok-passings.ensures two (c.requires.one_each ∙ sym (segments_length c.args.segments.now))
+    told p ss c.args.event.now c.args.sym.now b c.after.new.net c.in_ok-passings.passings.items c.in_ok-completed.completed c.in_ok-passings.ensures two (c.requires.one_each ∙ sym (segments_length c.args.segments.now)) (c.events_are_followed.ensures p ss)

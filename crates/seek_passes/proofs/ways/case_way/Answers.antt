@@ -12,7 +12,9 @@ pub loop-i-preserved : goal.loop-i-preserved
 loop-i-preserved c =
     let fits : SFits w128 c.args.constant = search rules in
     let told = rw (to_z-of_z w128 c.args.constant fits) at c.is_label.ensures in
-    none_more c.args.arms.now c.args.constant c.loop-i.i c.index-arms-i.result c.loop-i-test.true c.index-arms-i.is (sym told ∙ c.if-is_label.false) c.loop-i.invariant
+    let before = rw (to_z-of_z w128 c.args.constant fits) at c.loop-i.invariant in
+    rw (to_z-of_z w128 c.args.constant fits)
+    (none_more c.args.arms.now c.args.constant c.loop-i.i c.index-arms-i.result c.loop-i-test.true c.index-arms-i.is (sym told ∙ c.if-is_label.false) before)
 
 pub returns-then-is_label : goal.returns-then-is_label
 returns-then-is_label c =
@@ -22,4 +24,6 @@ returns-then-is_label c =
 
 pub returns : goal.returns
 returns c =
-    no_way c.args.net.now c.args.arms.now c.args.cases.now c.args.constant c.loop-i.i c.not.result (omega arith) c.loop-i.invariant (opp c.not.ensures c.yes.ensures)
+    let fits : SFits w128 c.args.constant = search rules in
+    let before = rw (to_z-of_z w128 c.args.constant fits) at c.loop-i.invariant in
+    no_way c.args.net.now c.args.arms.now c.args.cases.now c.args.constant c.loop-i.i c.not.result (omega arith) before (opp c.not.ensures c.yes.ensures)
