@@ -29,7 +29,7 @@ use Rattle.sym_state.proofs.Nets.{unchanged, longer_by}
 use Rattle.sym_state.proofs.Composed.{follows_then, follows_as, net_follows}
 use Rattle.sym_values.specs.Valuing.{where_of}
 use Rattle.sym_scale.specs.Cost.{Cost, expression, arguments}
-use Rattle.sym_scale.specs.Cost.{nodes, bits}
+use Rattle.sym_scale.specs.Cost.{nodes, bits as drawn_bits}
 use Rattle.sym_eval.specs.Calling.{value_at, values_at, IsArgument, weight_of_all, bits_of_all, AllReady, AllValues}
 use Rattle.sym_exprs.specs.Evaluating.{weight_of, bits_of, evaluated, Ready, Values}
 use Rattle.sym_eval.specs.declared.parameters.Argument.{Argument}
@@ -112,7 +112,7 @@ module _ (p : Program) (W : Mode) (n : ℕ) (at : Around) where
   pub argument_ready : {s m : Sym} {xs : List Argument} (es : List Expr) (i : ℕ) (e : Expr) → i < length es → e ≡ get_or es i e → AllReady p W n at s (exprs_view es) → AllValues p W n at (exprs_view (take i es)) s m xs → Ready p W n at m (expr_view e)
   argument_ready {s} {m} es i e l q h x =
       let w = amount_at p (nodes p W.scale n) es i e e l q in
-      let b = amount_at p (bits p W.scale n) es i e e l q in
+      let b = amount_at p (drawn_bits p W.scale n) es i e e l q in
       record {
         fits = x.follows.fits;
         types = subst (λ z. IsTrue (every_exp (exp_fits p) (expr_view z))) (sym q) (every_at (exp_fits p) es i e l h.types);
@@ -145,7 +145,7 @@ module _ (p : Program) (W : Mode) (n : ℕ) (at : Around) where
       (net_follows p W.duties {i = 0} {S = λ v vs. vs ≡ values_at p v r.net (xs ++ a ∷ [])} (λ v. values_at p v m.net xs ++ value_at p v r.net a ∷ []) (record { fits = one.fits; added = unchanged 0 r.net; level = refl; result = refl; is = λ v. refl }) all)
       (λ v z q t. ap (λ z. Go (values_at p v m.net xs ++ (z, ty) ∷ []) t) q) (omega arith) (omega arith) in
       let w = amount_snoc p (nodes p W.scale n) es e in
-      let b = amount_snoc p (bits p W.scale n) es e in
+      let b = amount_snoc p (drawn_bits p W.scale n) es e in
       record {
         types = map-append (λ x. x.ty) xs (a ∷ []) ∙ ap (λ z. z ++ ty ∷ []) x.types ∙ sym (map-append type_of (exps_in (exprs_view es)) (expr_view e ∷ [])) ∙ ap (map type_of) (sym (list_snoc es e));
         bits_in = All-append (IsArgument p r.net) xs (a ∷ []) (arguments_added p one.added xs x.bits_in) (All-cons (IsArgument p r.net) a [] wide (All-nil (IsArgument p r.net)));

@@ -269,13 +269,13 @@ module _ (p : Program) (W : Mode) (n : ℕ) where
       weight_more = arms_amount p (nodes p W.scale n) gives arms k a h e
 
       bits_more : bits_of_block p W n gives (switch_view (take (k + 1) arms)) ≡ bits_of_block p W n gives (switch_view (take k arms)) + bits_of_block p W n gives body
-      bits_more = arms_amount p (bits p W.scale n) gives arms k a h e
+      bits_more = arms_amount p (cost.bits p W.scale n) gives arms k a h e
 
       weight_within : weight_of_block p W n gives (switch_view (take (k + 1) arms)) ≤ weight_of_block p W n gives (switch_view arms)
       weight_within = arms_within p (nodes p W.scale n) gives arms (k + 1)
 
       bits_within : bits_of_block p W n gives (switch_view (take (k + 1) arms)) ≤ bits_of_block p W n gives (switch_view arms)
-      bits_within = arms_within p (bits p W.scale n) gives arms (k + 1)
+      bits_within = arms_within p (cost.bits p W.scale n) gives arms (k + 1)
 
       count : length (take k arms) ≡ k
       count = length-take-le k arms (omega (arith, h))
