@@ -13,7 +13,7 @@ _witval() {
   case $command in
     witval-view) words+=' --list --sarif --html --colour --width --counts --certificate --manifest --dimacs --lrat --help --version validate' ;;
     witval-task) words+=' --data-model --language validate view' ;;
-    *) words+=' --number --certificate --values --model --uuid --time --help --version validate show normalise demo certify recheck author weed view' ;;
+    *) words+=' --bound --number --certificate --values --model --uuid --time --help --version validate show normalise demo certify recheck author weed seek view' ;;
   esac
   COMPREPLY=($(compgen -W "$words" -- "$word"))
 }

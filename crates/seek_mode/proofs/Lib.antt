@@ -1,1 +1,2 @@
 mod SoughtJudged
+mod Within

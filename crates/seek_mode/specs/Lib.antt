@@ -1,2 +1,3 @@
+pub mod SeekingScale
 pub mod SeekingMode
 pub mod SoughtRuns

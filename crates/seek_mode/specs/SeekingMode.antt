@@ -14,6 +14,7 @@ use Rattle.way_match.specs.Points.{BoundSegment}
 use Rattle.seek_meaning.specs.Progress.{completed_after, completes_all}
 use Rattle.sym_meaning.specs.Mode.{Act, Turn, Mode}
 use Rattle.sym_meaning.specs.Judged.{stop}
+use Rattle.seek_mode.specs.SeekingScale.{sought}
 
 -- no obligation of a program: lines and columns of a text are counted from 1
 abbrev pub the_hit : Duty
@@ -32,7 +33,7 @@ turns (suc r) turn = λ s. bind (turn true s) (turned (turns r turn))
 abbrev pub seeking_mode : Program → List BoundSegment → ℕ → Mode
 seeking_mode p ss k = record {
   duties = the_hit ∷ [];
-  placed = [];
+  scale = sought p ss k;
   duty_at = λ at. the_hit;
   counts = completes_all p ss;
   here = here p ss;

@@ -4,4 +4,6 @@
 
 mod laws;
 
-pub use laws::{hits_are_failures, sought_runs_are_judged};
+pub use laws::{
+    hits_are_failures, runs_that_seek_cost_their_weight_at_most, sought_runs_are_judged,
+};

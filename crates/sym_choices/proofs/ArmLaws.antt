@@ -24,7 +24,7 @@ use Rattle.sym_choices.proofs.Labels.{label_of, labels_from}
 use Rattle.sym_choices.specs.Choosing.{done_from, entry_of, entered_by, AreEntries, Entered}
 
 -- ---- numbers of arms
-any_of_all : {A : Type 0} (f : A → Bool) (xs : List A) → list_any f xs ≡ list_any (λ b. b) (map f xs)
+pub any_of_all : {A : Type 0} (f : A → Bool) (xs : List A) → list_any f xs ≡ list_any (λ b. b) (map f xs)
 any_of_all f [] = refl
 any_of_all f (x ∷ xs) = ap (λ b. f x || b) (any_of_all f xs)
 

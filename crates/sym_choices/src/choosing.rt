@@ -1,5 +1,5 @@
 // Which arms of a switch are done: the chosen one, and those after it.
-ghost use Rattle.std.specs.Prelude.{◌≡◌, ◌+◌, ◌*◌, ◌<◌, ◌^◌, ◌||◌, IfOk, ℕ, ℤ, Bool, length, map};
+ghost use Rattle.std.specs.Prelude.{◌≡◌, ◌+◌, ◌*◌, ◌<◌, ◌^◌, ◌||◌, IfOk, ℕ, ℤ, Bool, length, map, not as negated};
 ghost use Rattle.std.specs.List.{list_any};
 ghost use Rattle.c_core.specs.Typing.{labels_in};
 ghost use Rattle.c_core.specs.View.{program_view, switch_view};
@@ -7,6 +7,7 @@ ghost use Rattle.c_meaning.specs.Run.{is_case};
 ghost use Rattle.circuits.specs.Net.{holds, Grown, IsIn, Means};
 ghost use Rattle.circuits.specs.Numbers.{AreIn};
 ghost use Rattle.sym_state.specs.Standing.{IsState};
+ghost use Rattle.sym_values.specs.Valuing.{Decided};
 ghost use Rattle.sym_choices.specs.Choosing.{entry_of, AreEntries, Entered};
 
 use c_core::{Arm, Label, Program};
@@ -73,6 +74,18 @@ fn entries(
         out.push(entered)?;
     }
     Ok(out)
+}
+
+/// Is the value of a switch none of the constants? The bits are those of the cases, arm by arm.
+pub fn no_case(program: &Program, sym: &mut Sym, cases: &[Bit]) -> Result<Bit, OutOfMemory>
+    requires fits { IsState (program_view program.now) sym.old }
+    requires cases_in { AreIn sym.old.net cases.now }
+    requires room { length sym.old.net + length cases.now < 2 ^ 28 }
+    ensures { IfOk result (λ r. Decided (program_view program.now) (length cases.now) sym.old sym.new r
+        (λ v. negated (list_any (λ b. holds v sym.old.net b) cases.now))) }
+{
+    let any = any_of(&mut sym.net, cases)?;
+    Ok(not(any))
 }
 
 /// For each arm of a switch: is it or one before it the chosen one? The bits are those of the cases, arm by arm.

@@ -6,4 +6,4 @@ mod cases;
 mod choosing;
 
 pub use cases::case_bits;
-pub use choosing::enter_arms;
+pub use choosing::{enter_arms, no_case};

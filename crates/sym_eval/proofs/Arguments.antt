@@ -28,8 +28,8 @@ use Rattle.sym_state.specs.Following.{Follows, AreOf, IsNumber}
 use Rattle.sym_state.proofs.Nets.{unchanged, longer_by}
 use Rattle.sym_state.proofs.Composed.{follows_then, follows_as, net_follows}
 use Rattle.sym_values.specs.Valuing.{where_of}
-use Rattle.sym_weight.specs.Sum.{Sum, expression, arguments}
-use Rattle.sym_weight.specs.Weight.{weight_in, bits_in}
+use Rattle.sym_scale.specs.Cost.{Cost, expression, arguments}
+use Rattle.sym_scale.specs.Cost.{nodes, bits as drawn_bits}
 use Rattle.sym_eval.specs.Calling.{value_at, values_at, IsArgument, weight_of_all, bits_of_all, AllReady, AllValues}
 use Rattle.sym_exprs.specs.Evaluating.{weight_of, bits_of, evaluated, Ready, Values}
 use Rattle.sym_eval.specs.declared.parameters.Argument.{Argument}
@@ -50,15 +50,12 @@ value_of_one [] i d l h = absurd (omega (arith, l))
 value_of_one (e ∷ es) zero d l h = (both (has_value (expr_view e)) (list_all has_value (exps_in (exprs_view es))) h).0
 value_of_one (e ∷ es) (suc i) d l h = value_of_one es i d (omega (arith, l)) (both (has_value (expr_view e)) (list_all has_value (exps_in (exprs_view es))) h).1
 
--- amounts that add up: weights, or drawn bits
-abbrev adding : (ℕ → ℕ → ℕ) → (ℕ → ℕ) → Sum
-adding pick body = record { Amount = ℕ; none = 0; both = λ a b. a + b; part = pick; body = body }
-
-module _ (p : Program) (pick : ℕ → ℕ → ℕ) (body : ℕ → ℕ) where
+-- amounts that add up: and-nodes, or drawn bits
+module _ (p : Program) (C : Cost) where
   abbrev all_of : List Expr → ℕ
-  all_of es = arguments p (adding pick body) (exprs_view es)
+  all_of es = arguments p C (exprs_view es)
 
-  amount_snoc : (es : List Expr) (e : Expr) → all_of (es ++ e ∷ []) ≡ all_of es + expression p (adding pick body) (expr_view e)
+  amount_snoc : (es : List Expr) (e : Expr) → all_of (es ++ e ∷ []) ≡ all_of es + expression p C (expr_view e)
   amount_snoc [] e = omega arith
   amount_snoc (x ∷ es) e = let h = amount_snoc es e in omega (arith, h)
 
@@ -69,9 +66,9 @@ module _ (p : Program) (pick : ℕ → ℕ → ℕ) (body : ℕ → ℕ) where
   amount_front (suc k) (e ∷ es) = let h = amount_front k es in omega (arith, h)
 
   -- one of them, behind those in front of it
-  amount_at : (es : List Expr) (i : ℕ) (e d : Expr) → i < length es → e ≡ get_or es i d → all_of (take i es) + expression p (adding pick body) (expr_view e) ≤ all_of es
+  amount_at : (es : List Expr) (i : ℕ) (e d : Expr) → i < length es → e ≡ get_or es i d → all_of (take i es) + expression p C (expr_view e) ≤ all_of es
   amount_at es i e d l q =
-      let s : all_of (take (suc i) es) ≡ all_of (take i es) + expression p (adding pick body) (expr_view e) =
+      let s : all_of (take (suc i) es) ≡ all_of (take i es) + expression p C (expr_view e) =
       ap all_of (take-suc es i d l ∙ ap (λ z. take i es ++ z ∷ []) (sym q)) ∙ amount_snoc (take i es) e in
       omega (arith, s, amount_front (suc i) es)
 
@@ -114,8 +111,8 @@ module _ (p : Program) (W : Mode) (n : ℕ) (at : Around) where
   -- an argument is evaluated behind those in front of it
   pub argument_ready : {s m : Sym} {xs : List Argument} (es : List Expr) (i : ℕ) (e : Expr) → i < length es → e ≡ get_or es i e → AllReady p W n at s (exprs_view es) → AllValues p W n at (exprs_view (take i es)) s m xs → Ready p W n at m (expr_view e)
   argument_ready {s} {m} es i e l q h x =
-      let w = amount_at p (λ w b. w) (weight_in p W.placed n) es i e e l q in
-      let b = amount_at p (λ w b. b) (bits_in p n) es i e e l q in
+      let w = amount_at p (nodes p W.scale n) es i e e l q in
+      let b = amount_at p (drawn_bits p W.scale n) es i e e l q in
       record {
         fits = x.follows.fits;
         types = subst (λ z. IsTrue (every_exp (exp_fits p) (expr_view z))) (sym q) (every_at (exp_fits p) es i e l h.types);
@@ -125,7 +122,7 @@ module _ (p : Program) (W : Mode) (n : ℕ) (at : Around) where
 
   -- it weighs no more than all
   pub argument_weight : (es : List Expr) (i : ℕ) (e : Expr) → i < length es → e ≡ get_or es i e → weight_of p W n (expr_view e) ≤ weight_of_all p W n (exprs_view es)
-  argument_weight es i e l q = let w = amount_at p (λ w b. w) (weight_in p W.placed n) es i e e l q in omega (arith, w)
+  argument_weight es i e l q = let w = amount_at p (nodes p W.scale n) es i e e l q in omega (arith, w)
 
   pub first_values : (s : Sym) → IsState p s → AllValues p W n at NoExp s s []
   first_values s h = record {
@@ -147,8 +144,8 @@ module _ (p : Program) (W : Mode) (n : ℕ) (at : Around) where
       let last = follows_then p W.duties (weight_of p W n (expr_view e)) (bits_of p W n (expr_view e)) (λ v z. Go (values_at p v m.net xs ++ (z, ty) ∷ [])) one
       (net_follows p W.duties {i = 0} {S = λ v vs. vs ≡ values_at p v r.net (xs ++ a ∷ [])} (λ v. values_at p v m.net xs ++ value_at p v r.net a ∷ []) (record { fits = one.fits; added = unchanged 0 r.net; level = refl; result = refl; is = λ v. refl }) all)
       (λ v z q t. ap (λ z. Go (values_at p v m.net xs ++ (z, ty) ∷ []) t) q) (omega arith) (omega arith) in
-      let w = amount_snoc p (λ w b. w) (weight_in p W.placed n) es e in
-      let b = amount_snoc p (λ w b. b) (bits_in p n) es e in
+      let w = amount_snoc p (nodes p W.scale n) es e in
+      let b = amount_snoc p (drawn_bits p W.scale n) es e in
       record {
         types = map-append (λ x. x.ty) xs (a ∷ []) ∙ ap (λ z. z ++ ty ∷ []) x.types ∙ sym (map-append type_of (exps_in (exprs_view es)) (expr_view e ∷ [])) ∙ ap (map type_of) (sym (list_snoc es e));
         bits_in = All-append (IsArgument p r.net) xs (a ∷ []) (arguments_added p one.added xs x.bits_in) (All-cons (IsArgument p r.net) a [] wide (All-nil (IsArgument p r.net)));

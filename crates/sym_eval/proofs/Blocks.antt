@@ -1,5 +1,5 @@
 -- Statements by their forms, and the statements of a block.
-use Rattle.std.proofs.Common.{◌≡◌, ℕ, ◌+◌, ◌*◌, ◌≤◌, ◌<◌, ◌^◌, Bool, true, false, ℤ, List, [], length, take, get_or, refl, sym, ◌∙◌, ap, subst, arith, Option, Some, None, IsTrue}
+use Rattle.std.proofs.Common.{◌≡◌, ℕ, ◌+◌, ◌*◌, ◌≤◌, ◌<◌, ◌^◌, Bool, true, ℤ, List, [], length, take, get_or, refl, sym, ◌∙◌, ap, subst, arith, Option, Some, None, IsTrue}
 use Rattle.c_core.specs.Tree.{Program, Exp, Names, Stm, Stmt, Form, Empty, Do, Declare, Block, If, Break, Continue, Return, Label, Else, OrElse, NoElse, Stms}
 use Rattle.c_core.specs.Parts.{type_of as type_if, every_statement, every_statement_else}
 use Rattle.c_core.specs.Types.{fit, width_of}
@@ -25,7 +25,6 @@ use Rattle.circuits.specs.Numbers.{typed, AreTyped}
 use Rattle.circuits.specs.Outcome.{conversion_cost}
 use Rattle.sym_state.specs.declared.state.Sym.{Sym}
 use Rattle.sym_state.specs.Standing.{Stand, IsState, Turned}
-use Rattle.sym_state.specs.Following.{Follows}
 use Rattle.sym_state.proofs.Nets.{longer_by, in_added}
 use Rattle.sym_values.specs.Valuing.{Reckoned}
 use Rattle.sym_flow.specs.Ways.{Became, cut_to, leaving, going_again, going_back, giving}
@@ -37,9 +36,10 @@ use Rattle.sym_flow.proofs.Statements.{runs_then, runs_as, skip_runs}
 use Rattle.sym_exprs.proofs.Costs.{conversion_costs}
 use Rattle.sym_exprs.proofs.Typed.{has_one}
 use Rattle.sym_weight.specs.Views.{else_of}
-use Rattle.sym_weight.specs.Weight.{weight_in, bits_in, placed_weight, nowhere}
+use Rattle.sym_scale.specs.Cost.{nodes, bits}
 use Rattle.sym_eval.specs.Control.{FullReady, FullGives}
 use Rattle.sym_eval.specs.Doing.{calls, weight_of_control, bits_of_control, ControlReady, Decides, NamesReady, NamesDo, weight_of, bits_of, Ready, Does, ScopeDoes, form_glue, weight_of_form, bits_of_form, FormReady, FormDoes, ElseReady, ElseDoes, weight_of_block, bits_of_block, BlockReady, BlockDoes}
+use Rattle.sym_walk.specs.Hooks.{Begins}
 use Rattle.sym_eval.proofs.Stages.{Stage, stage, stage_follows, stage_runs, stage_turned}
 use Rattle.sym_eval.proofs.Fulls.{only_one, form_types, full_in, number_as}
 use Rattle.sym_eval.proofs.Sequences.{statements_more, statements_within, statement_typed, execs_more}
@@ -51,9 +51,9 @@ view_of_if e a (Some b) = refl
 module _ (p : Program) (W : Mode) (n : ℕ) (gives : Option IntType) where
   -- ---- a statement: its location invariants, and its form
   abbrev pub Tests : Spot → Sym → Sym → Type 0
-  Tests at s m = Follows W.duties p (placed_weight p W.placed false at) 0 s m (λ v u. Unit {0}) (λ v. W.here at)
+  Tests at s m = Begins p W at s m
 
-  pub test_room : {s : Sym} (at : Spot) (f : Form) → Ready p W n gives s (Stmt at f) → length s.net + placed_weight p W.placed false at < 2 ^ 27
+  pub test_room : {s : Sym} (at : Spot) (f : Form) → Ready p W n gives s (Stmt at f) → length s.net + W.scale.statement at < 2 ^ 27
   test_room at f r = omega (arith, r.room)
 
   pub form_ready : {s m : Sym} (at : Spot) (f : Form) → Ready p W n gives s (Stmt at f) → Tests at s m → FormReady p W n gives at m f
@@ -117,16 +117,16 @@ module _ (p : Program) (W : Mode) (n : ℕ) (gives : Option IntType) where
 
   module _ (xs : List rust.Stmt) (k : ℕ) (x : rust.Stmt) (h : k < length xs) (e : x ≡ get_or xs k x) where
     weight_more : weight_of_block p W n gives (stmts_view (take (k + 1) xs)) ≡ weight_of_block p W n gives (stmts_view (take k xs)) + weight_of p W n gives (stmt_view x)
-    weight_more = statements_more p (λ w b. w) (weight_in p W.placed n) (placed_weight p W.placed) gives xs k x h ∙ ap (λ z. weight_of_block p W n gives (stmts_view (take k xs)) + weight_of p W n gives (stmt_view z)) (sym e)
+    weight_more = statements_more p (nodes p W.scale n) gives xs k x h ∙ ap (λ z. weight_of_block p W n gives (stmts_view (take k xs)) + weight_of p W n gives (stmt_view z)) (sym e)
 
     bits_more : bits_of_block p W n gives (stmts_view (take (k + 1) xs)) ≡ bits_of_block p W n gives (stmts_view (take k xs)) + bits_of p W n gives (stmt_view x)
-    bits_more = statements_more p (λ w b. b) (bits_in p n) nowhere gives xs k x h ∙ ap (λ z. bits_of_block p W n gives (stmts_view (take k xs)) + bits_of p W n gives (stmt_view z)) (sym e)
+    bits_more = statements_more p (bits p W.scale n) gives xs k x h ∙ ap (λ z. bits_of_block p W n gives (stmts_view (take k xs)) + bits_of p W n gives (stmt_view z)) (sym e)
 
     weight_within : weight_of_block p W n gives (stmts_view (take (k + 1) xs)) ≤ weight_of_block p W n gives (stmts_view xs)
-    weight_within = statements_within p (λ w b. w) (weight_in p W.placed n) (placed_weight p W.placed) gives xs (k + 1)
+    weight_within = statements_within p (nodes p W.scale n) gives xs (k + 1)
 
     bits_within : bits_of_block p W n gives (stmts_view (take (k + 1) xs)) ≤ bits_of_block p W n gives (stmts_view xs)
-    bits_within = statements_within p (λ w b. b) (bits_in p n) nowhere gives xs (k + 1)
+    bits_within = statements_within p (bits p W.scale n) gives xs (k + 1)
 
     -- a statement weighs no more than its block
     pub block_part : weight_of p W n gives (stmt_view x) ≤ weight_of_block p W n gives (stmts_view xs)
@@ -166,12 +166,12 @@ module _ (p : Program) (W : Mode) (n : ℕ) (gives : Option IntType) where
         let q = both (every_statement (statement_fits p gives) yes) (every_statement_else (statement_fits p gives) no) t.2 in
         (t.0, only_one (is_typed p) test t.1, q.0, q.1)
 
-    pub choice_ready : ControlReady p W n o test
+    pub choice_ready : ControlReady p W n at o test
     choice_ready = record { fits = r.fits; types = if_types.1; value = if_types.0; room = omega (arith, r.room) }
 
     module _ {a : Sym} {bit : Bit} (x : Decides p W n at test o a bit) where
       abbrev tested_most : ℕ
-      tested_most = length o.net + (weight_of_control p W n test + bits_of_control p W n test)
+      tested_most = length o.net + (weight_of_control p W n at test + bits_of_control p W n at test)
 
       tested_stage : Stage p gives tested_most a
       tested_stage = stage_follows p gives (stage p gives o r.fits r.result) x.follows

@@ -34,7 +34,7 @@ by_test p W at (Stop e s) A B = refl
 module _ (p : Program) (W : Mode) (n : ℕ) (gives : Option IntType) where
   -- C11 6.8.4p2, 6.8.5p4
   pub decides_run : {l x : ℕ} {o a f : Sym} (g m : ℕ) (at : Spot) (e : Exp) (bit : Bit) (A B : Turn) → Decides p W n at e o a bit
-      → Runs W.duties p gives l x a f (λ v s. cond (holds v a.net bit) (A true s) (B true s)) → weight_of_control p W n e + l ≤ g → bits_of_control p W n e + x ≤ m
+      → Runs W.duties p gives l x a f (λ v s. cond (holds v a.net bit) (A true s) (B true s)) → weight_of_control p W n at e + l ≤ g → bits_of_control p W n at e + x ≤ m
       → Runs W.duties p gives g m o f (λ v. control p (judged p W) (calls p W n) at e A B true)
   decides_run g m at e bit A B d r h q =
       runs_as p W.duties gives (follows_runs p W.duties gives g m (λ v t s. cond t (A true s) (B true s)) d.follows r (λ v t e s. ap (λ u. cond u (A true s) (B true s)) e) h q)

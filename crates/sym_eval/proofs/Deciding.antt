@@ -29,7 +29,7 @@ use Rattle.sym_state.specs.declared.state.Around.{Around}
 use Rattle.sym_state.specs.Standing.{Stand, stand, IsState, Kept, IsHere, Turned, with_live}
 use Rattle.sym_state.specs.Telling.{telling}
 use Rattle.sym_state.specs.Following.{left_of, Follows, AreOf, IsNumber}
-use Rattle.sym_state.proofs.Nets.{added_then, holds_added, in_added}
+use Rattle.sym_state.proofs.Nets.{added_then, longer_by, holds_added, in_added}
 use Rattle.sym_state.proofs.Telling.{told_follows, follows_map}
 use Rattle.sym_state.proofs.Composed.{follows_then, follows_as, net_follows}
 use Rattle.sym_values.specs.Valuing.{where_of, IsDutyAt, Decided}
@@ -124,39 +124,44 @@ module _ (p : Program) (W : Mode) (n : ℕ) where
   }
 
   -- ---- a controlling expression
-  pub control_ready : {s : Sym} {e : Exp} → ControlReady p W n s e → FullReady p W n s e
+  pub control_ready : {at : Spot} {s : Sym} {e : Exp} → ControlReady p W n at s e → FullReady p W n s e
   control_ready h = record { fits = h.fits; types = h.types; room = omega (arith, h.room) }
+
+  -- there is room for the event
+  pub control_room : {s x y : Sym} {bits : List Bit} {k : ℕ} {f : (ℕ → Bool) → Bool} {bit : Bit} (at : Spot) (e : Exp) → ControlReady p W n at s e → FullGives p W n at Used e s x bits → Decided p k x y bit f → k ≤ width_of p.model (type_of e)
+      → length y.net + W.scale.test at < 2 ^ 27
+  control_room at e h g d le = omega (arith, h.room, (longer_by g.follows.added).1, (longer_by d.turned.added).1, le)
 
   pub control_bits : {s m : Sym} {bits : List Bit} (at : Spot) (e : Exp) (ty : IntType) → ty ≡ type_of e → IsTrue (has_value e) → FullGives p W n at Used e s m bits → AreTyped p.model ty m.net bits
   control_bits {m = m} {bits = bits} at e ty te h g = subst (λ t. AreOf p.model t m.net bits) (has_one e h ∙ ap Some (sym te)) g.bits_in
 
   pub decides : {s x y z : Sym} {bits : List Bit} (at : Spot) (e : Exp) (ty : IntType) (bit : Bit) → ty ≡ type_of e → IsTrue (has_value e) → FullGives p W n at Used e s x bits
       → Decided p (conversion_cost p.model ty BoolType) x y bit (λ v. not (is_zero (typed p.model ty v x.net bits)))
-      → Turned p 0 0 y z (λ v. telling W (Branch at (Truth (holds v y.net bit)))) → Decides p W n at e s z bit
+      → Turned p (W.scale.test at) 0 y z (λ v. telling W (Branch at (Truth (holds v y.net bit)))) → Decides p W n at e s z bit
   decides {s} {x} {y} {z} {bits} at e ty bit te h g d ev =
       let one : type_if e ≡ Some ty = has_one e h ∙ ap Some (sym te) in
       let cost : conversion_cost p.model ty BoolType ≤ width_of p.model (type_of e) = subst (λ t. conversion_cost p.model ty BoolType ≤ width_of p.model t) te (test_costs p.model ty) in
       let T : (ℕ → Bool) → Bool = λ v. not (is_zero (typed p.model ty v x.net bits)) in
       let here : (v : ℕ → Bool) → holds v z.net bit ≡ holds v y.net bit = λ v. holds_added ev.added v bit d.means.inside in
-      let told : Follows W.duties p 0 0 y z (λ v t. t ≡ holds v z.net bit) (λ v s. bind (tell p W (Branch at (Truth (holds v y.net bit))) s) (λ u s. Go (holds v y.net bit) s)) =
+      let told : Follows W.duties p (W.scale.test at) 0 y z (λ v t. t ≡ holds v z.net bit) (λ v s. bind (tell p W (Branch at (Truth (holds v y.net bit))) s) (λ u s. Go (holds v y.net bit) s)) =
       follows_map p W (λ v u. holds v y.net bit) (told_follows p W (λ v. Branch at (Truth (holds v y.net bit))) ev) (λ v u q. sym (here v)) in
       record {
         bit_in = in_added ev.added bit d.means.inside;
-        follows = follows_then p W.duties (weight_of_control p W n e) (bits_of_control p W n e) (λ v w s. bind (tell p W (Branch at (Truth (not (is_zero w)))) s) (λ u s. Go (not (is_zero w)) s)) g.follows
-            (follows_then p W.duties (width_of p.model (type_of e)) 0 (λ v u s. bind (tell p W (Branch at (Truth (T v))) s) (λ u s. Go (T v) s))
+        follows = follows_then p W.duties (weight_of_control p W n at e) (bits_of_control p W n at e) (λ v w s. bind (tell p W (Branch at (Truth (not (is_zero w)))) s) (λ u s. Go (not (is_zero w)) s)) g.follows
+            (follows_then p W.duties (width_of p.model (type_of e) + W.scale.test at) 0 (λ v u s. bind (tell p W (Branch at (Truth (T v))) s) (λ u s. Go (T v) s))
             (net_follows p W.duties {A = Unit {0}} {S = λ v u. Unit {0}} (λ v. tt) d.turned (λ v. tt)) told
             (λ v u q s. ap (λ t. bind (tell p W (Branch at (Truth t)) s) (λ u s. Go t s)) (sym (d.means.is v))) (omega (arith, cost)) (omega arith))
             (λ v w q s. ap (λ w. bind (tell p W (Branch at (Truth (not (is_zero w)))) s) (λ u s. Go (not (is_zero w)) s)) (subst (λ t. IsNumber p.model t x.net bits v w) one q)) (omega arith) (omega arith);
       }
 
   -- ---- a loop's test
-  pub test_ready : {s : Sym} {e : Exp} → TestReady p W n s e → ControlReady p W n s e
+  pub test_ready : {at : Spot} {s : Sym} {e : Exp} → TestReady p W n at s e → ControlReady p W n at s e
   test_ready h = record { fits = h.fits; types = h.types; value = h.value; room = omega (arith, h.room) }
 
   pub test_does : {s x y : Sym} (at : Spot) (e : Exp) (bit : Bit) → Decides p W n at e s x bit → Became p 3 x y (λ v. parting (holds v x.net bit)) → TestDoes p W n at e s y
   test_does {x = x} at e bit d b gives =
       runs_as p W.duties gives
-      (follows_runs p W.duties gives (test_glue + weight_of_control p W n e) (bits_of_control p W n e) (λ v t s. cond t (Go Next s) (Go Broken s)) d.follows (parting_runs p W.duties gives (λ v. holds v x.net bit) b)
+      (follows_runs p W.duties gives (test_glue + weight_of_control p W n at e) (bits_of_control p W n at e) (λ v t s. cond t (Go Next s) (Go Broken s)) d.follows (parting_runs p W.duties gives (λ v. holds v x.net bit) b)
       (λ v t q s. ap (λ u. cond u (Go Next s) (Go Broken s)) q) (omega arith) (omega arith))
       (λ v s.
       let one : JudgedState → Res Stopped JudgedState ℤ = full p (judged p W) (calls p W n) at Used e in
@@ -166,10 +171,10 @@ module _ (p : Program) (W : Mode) (n : ℕ) where
       (omega arith) (omega arith)
 
   -- ---- the parts of a `for`
-  pub some_test_ready : {s : Sym} {e : Exp} → TestIfReady p W n s (Some e) → TestReady p W n s e
+  pub some_test_ready : {at : Spot} {s : Sym} {e : Exp} → TestIfReady p W n at s (Some e) → TestReady p W n at s e
   some_test_ready {e = e} h = let t = both (has_value e) (is_typed p e) h.types in record { fits = h.fits; types = t.1; value = t.0; room = h.room }
 
-  pub no_test : {s : Sym} (at : Spot) → TestIfReady p W n s None → TestIfDoes p W n at None s s
+  pub no_test : {s : Sym} (at : Spot) → TestIfReady p W n at s None → TestIfDoes p W n at None s s
   no_test {s = s} at h gives = runs_as p W.duties gives (skip_runs p W.duties gives s h.fits) (λ v s. refl) (omega arith) (omega arith)
 
   pub some_step_ready : {s : Sym} {e : Exp} → StepReady p W n s (Some e) → FullReady p W n s e

@@ -40,7 +40,7 @@ use Rattle.sym_flow.proofs.Forms.{first_expression_runs, first_names_run}
 use Rattle.sym_flow.proofs.Statements.{runs_then, runs_as, skip_runs}
 use Rattle.sym_exprs.proofs.Costs.{conversion_costs}
 use Rattle.sym_exprs.proofs.Typed.{has_one}
-use Rattle.sym_weight.specs.Weight.{weight_in, bits_in}
+use Rattle.sym_scale.specs.Cost.{nodes, bits}
 use Rattle.sym_eval.specs.Control.{FullReady, FullGives}
 use Rattle.sym_eval.specs.Doing.{calls, weight_of_initials, bits_of_initials, InitialsReady, InitialsDo, weight_of_rows, bits_of_rows, RowsReady, RowsDo, InitialReady, InitialDoes, weight_of_names, bits_of_names, NamesReady, NamesDo, weight_of_first, bits_of_first, FirstReady, FirstDoes}
 use Rattle.sym_eval.proofs.Fulls.{only_one, full_in, number_as}
@@ -94,16 +94,16 @@ module _ (p : Program) (W : Mode) (n : ℕ) where
 
   module _ (at : Spot) (o i : ℕ) (xs : List rust.Expr) (k : ℕ) (x : rust.Expr) (h : k < length xs) (e : x ≡ get_or xs k x) where
     values_weight : weight_of_initials p W n o (exprs_view (take (k + 1) xs)) ≡ weight_of_initials p W n o (exprs_view (take k xs)) + weight_of_initials p W n o (exprs_view (x ∷ []))
-    values_weight = initials_more p (λ w b. w) (weight_in p W.placed n) o xs k x h ∙ ap (λ z. weight_of_initials p W n o (exprs_view (take k xs)) + weight_of_initials p W n o (exprs_view (z ∷ []))) (sym e)
+    values_weight = initials_more p (nodes p W.scale n) o xs k x h ∙ ap (λ z. weight_of_initials p W n o (exprs_view (take k xs)) + weight_of_initials p W n o (exprs_view (z ∷ []))) (sym e)
 
     values_bits : bits_of_initials p W n o (exprs_view (take (k + 1) xs)) ≡ bits_of_initials p W n o (exprs_view (take k xs)) + bits_of_initials p W n o (exprs_view (x ∷ []))
-    values_bits = initials_more p (λ w b. b) (bits_in p n) o xs k x h ∙ ap (λ z. bits_of_initials p W n o (exprs_view (take k xs)) + bits_of_initials p W n o (exprs_view (z ∷ []))) (sym e)
+    values_bits = initials_more p (bits p W.scale n) o xs k x h ∙ ap (λ z. bits_of_initials p W n o (exprs_view (take k xs)) + bits_of_initials p W n o (exprs_view (z ∷ []))) (sym e)
 
     values_weight_within : weight_of_initials p W n o (exprs_view (take (k + 1) xs)) ≤ weight_of_initials p W n o (exprs_view xs)
-    values_weight_within = initials_within p (λ w b. w) (weight_in p W.placed n) o xs (k + 1)
+    values_weight_within = initials_within p (nodes p W.scale n) o xs (k + 1)
 
     values_bits_within : bits_of_initials p W n o (exprs_view (take (k + 1) xs)) ≤ bits_of_initials p W n o (exprs_view xs)
-    values_bits_within = initials_within p (λ w b. b) (bits_in p n) o xs (k + 1)
+    values_bits_within = initials_within p (bits p W.scale n) o xs (k + 1)
 
     -- a value weighs no more than its initializer
     pub values_part : weight_of_initials p W n o (exprs_view (x ∷ [])) ≤ weight_of_initials p W n o (exprs_view xs)
@@ -133,16 +133,16 @@ module _ (p : Program) (W : Mode) (n : ℕ) where
 
   module _ (at : Spot) (o : ℕ) (xs : List Row) (k : ℕ) (x : Row) (h : k < length xs) (e : x ≡ get_or xs k x) where
     rows_weight : weight_of_rows p W n o (rows_view (take (k + 1) xs)) ≡ weight_of_rows p W n o (rows_view (take k xs)) + weight_of_initials p W n o (exprs_view x.values)
-    rows_weight = rows_more p (λ w b. w) (weight_in p W.placed n) o xs k x h ∙ ap (λ z. weight_of_rows p W n o (rows_view (take k xs)) + weight_of_initials p W n o (exprs_view z.values)) (sym e)
+    rows_weight = rows_more p (nodes p W.scale n) o xs k x h ∙ ap (λ z. weight_of_rows p W n o (rows_view (take k xs)) + weight_of_initials p W n o (exprs_view z.values)) (sym e)
 
     rows_bits : bits_of_rows p W n o (rows_view (take (k + 1) xs)) ≡ bits_of_rows p W n o (rows_view (take k xs)) + bits_of_initials p W n o (exprs_view x.values)
-    rows_bits = rows_more p (λ w b. b) (bits_in p n) o xs k x h ∙ ap (λ z. bits_of_rows p W n o (rows_view (take k xs)) + bits_of_initials p W n o (exprs_view z.values)) (sym e)
+    rows_bits = rows_more p (bits p W.scale n) o xs k x h ∙ ap (λ z. bits_of_rows p W n o (rows_view (take k xs)) + bits_of_initials p W n o (exprs_view z.values)) (sym e)
 
     rows_weight_within : weight_of_rows p W n o (rows_view (take (k + 1) xs)) ≤ weight_of_rows p W n o (rows_view xs)
-    rows_weight_within = rows_within p (λ w b. w) (weight_in p W.placed n) o xs (k + 1)
+    rows_weight_within = rows_within p (nodes p W.scale n) o xs (k + 1)
 
     rows_bits_within : bits_of_rows p W n o (rows_view (take (k + 1) xs)) ≤ bits_of_rows p W n o (rows_view xs)
-    rows_bits_within = rows_within p (λ w b. b) (bits_in p n) o xs (k + 1)
+    rows_bits_within = rows_within p (bits p W.scale n) o xs (k + 1)
 
     -- a row weighs no more than all
     pub rows_part : weight_of_initials p W n o (exprs_view x.values) ≤ weight_of_rows p W n o (rows_view xs)
@@ -232,16 +232,16 @@ module _ (p : Program) (W : Mode) (n : ℕ) where
 
   module _ (at : Spot) (xs : List Declared) (k : ℕ) (x : Declared) (h : k < length xs) (e : x ≡ get_or xs k x) where
     names_weight : weight_of_names p W n (names_view (take (k + 1) xs)) ≡ weight_of_names p W n (names_view (take k xs)) + weight_of_names p W n (names_view (x ∷ []))
-    names_weight = names_more p (λ w b. w) (weight_in p W.placed n) xs k x h ∙ ap (λ z. weight_of_names p W n (names_view (take k xs)) + weight_of_names p W n (names_view (z ∷ []))) (sym e)
+    names_weight = names_more p (nodes p W.scale n) xs k x h ∙ ap (λ z. weight_of_names p W n (names_view (take k xs)) + weight_of_names p W n (names_view (z ∷ []))) (sym e)
 
     names_bits : bits_of_names p W n (names_view (take (k + 1) xs)) ≡ bits_of_names p W n (names_view (take k xs)) + bits_of_names p W n (names_view (x ∷ []))
-    names_bits = names_more p (λ w b. b) (bits_in p n) xs k x h ∙ ap (λ z. bits_of_names p W n (names_view (take k xs)) + bits_of_names p W n (names_view (z ∷ []))) (sym e)
+    names_bits = names_more p (bits p W.scale n) xs k x h ∙ ap (λ z. bits_of_names p W n (names_view (take k xs)) + bits_of_names p W n (names_view (z ∷ []))) (sym e)
 
     names_weight_within : weight_of_names p W n (names_view (take (k + 1) xs)) ≤ weight_of_names p W n (names_view xs)
-    names_weight_within = names_within p (λ w b. w) (weight_in p W.placed n) xs (k + 1)
+    names_weight_within = names_within p (nodes p W.scale n) xs (k + 1)
 
     names_bits_within : bits_of_names p W n (names_view (take (k + 1) xs)) ≤ bits_of_names p W n (names_view xs)
-    names_bits_within = names_within p (λ w b. b) (bits_in p n) xs (k + 1)
+    names_bits_within = names_within p (bits p W.scale n) xs (k + 1)
 
     -- a name weighs no more than all
     pub names_part : weight_of_names p W n (names_view (x ∷ [])) ≤ weight_of_names p W n (names_view xs)

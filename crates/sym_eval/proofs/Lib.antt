@@ -14,6 +14,6 @@ mod Setting
 mod Stages
 mod Switchable
 mod Switched
+mod Taken
 mod Turns
 mod Wholly
-mod Untold

@@ -35,13 +35,12 @@ use Rattle.sym_state.proofs.Composed.{follows_then, follows_as}
 use Rattle.sym_flow.specs.Calling.{is_value}
 use Rattle.sym_flow.proofs.Declares.{no_ticks}
 use Rattle.sym_flow.proofs.Forms.{call_follows}
-use Rattle.sym_weight.specs.Sum.{function_body, function_of}
+use Rattle.sym_scale.specs.Cost.{function_body, function_of, nodes_in, bits_in, nodes, bits}
 use Rattle.sym_weight.specs.Table.{call_weight, params_of, passed, stored}
-use Rattle.sym_weight.specs.Weight.{weighing, drawing, weight_in, bits_in, placed_weight, nowhere}
 use Rattle.sym_eval.specs.Calling.{values_at, set_cost, Ended, AllReady, AllValues, weight_of_call, bits_of_call, CallReady, Called, weight_of_run, bits_of_run, RunReady, HasRun}
 use Rattle.sym_exprs.specs.Evaluating.{weight_of, bits_of, IsWanted, Ready, Values}
 use Rattle.sym_eval.specs.declared.parameters.Argument.{Argument}
-use Rattle.sym_eval.proofs.Setting.{declared, set_one}
+use Rattle.sym_eval.proofs.Setting.{declared, set_one, values_added, arguments_added}
 
 -- ---- what is asked of a value
 wanted_of : (m : DataModel) (needed : Bool) (ty : Option IntType) (net : List NetNode) (bits : List Bit) (v : ℕ → Bool) (z : ℤ) → is_value needed (typed m (type_or_int ty) v net bits) z → needed ≡ true → IsNumber m ty net bits v z
@@ -129,35 +128,35 @@ module _ (p : Program) (W : Mode) where
   missing_stops : (n : ℕ) (site : Site) (o : Option Function) (vs : List (ℤ × IntType)) (s : JudgedState) → o ≡ None → EndsAlike (call_of p (judged p W) (run_in p (judged p W) n) site o vs s) s
   missing_stops n site o vs s e = record { state = s; is = ap (λ o. call_of p (judged p W) (run_in p (judged p W) n) site o vs s) e; values = refl; draws = refl }
 
-  module _ (n f : ℕ) (needed : Bool) (ty : Option IntType) (xs : List Argument) {s r : Sym} {bits : List Bit} (x : Ended p ty s r bits) where
-    stopped_called : ((site : Site) (vs : List (ℤ × IntType)) (t : JudgedState) → EndsAlike (calls_in p (judged p W) n site f vs t) t) → Called p W n f needed ty xs s r bits
-    stopped_called h = record { bits_in = x.bits_in; follows = λ site e. ended_follows p W (x.follows W) (λ v t. h site (values_at p v s.net xs) t) (omega arith) (omega arith) }
+  module _ (close : Spot) (n f : ℕ) (needed : Bool) (ty : Option IntType) (xs : List Argument) {s r : Sym} {bits : List Bit} (x : Ended p ty s r bits) where
+    stopped_called : ((site : Site) (vs : List (ℤ × IntType)) (t : JudgedState) → EndsAlike (calls_in p (judged p W) n site f vs t) t) → Called p W n close f needed ty xs s r bits
+    stopped_called h = record { bits_in = x.bits_in; follows = λ site c e. ended_follows p W (x.follows W) (λ v t. h site (values_at p v s.net xs) t) (omega arith) (omega arith) }
 
     -- no call is so deep
-    deep_called : n ≡ 0 → Called p W n f needed ty xs s r bits
+    deep_called : n ≡ 0 → Called p W n close f needed ty xs s r bits
     deep_called e = stopped_called (λ site vs t. subst (λ k. EndsAlike (calls_in p (judged p W) k site f vs t) t) (sym e) (deep_stops site (slice_get p.functions f) vs t))
 
     -- there is no such function
-    missing_called : slice_get p.functions f ≡ None → Called p W n f needed ty xs s r bits
+    missing_called : slice_get p.functions f ≡ None → Called p W n close f needed ty xs s r bits
     missing_called e = stopped_called (λ site vs t. missing_stops n site (slice_get p.functions f) vs t e)
 
-  pub ended_called : (n f : ℕ) (needed : Bool) (ty : Option IntType) (xs : List Argument) {s r : Sym} {bits : List Bit} → Ended p ty s r bits → (0 < n → slice_get p.functions f ≡ None) → Called p W n f needed ty xs s r bits
-  ended_called zero f needed ty xs x h = deep_called zero f needed ty xs x refl
-  ended_called (suc n) f needed ty xs x h = missing_called (suc n) f needed ty xs x (h (omega arith))
+  pub ended_called : (close : Spot) (n f : ℕ) (needed : Bool) (ty : Option IntType) (xs : List Argument) {s r : Sym} {bits : List Bit} → Ended p ty s r bits → (0 < n → slice_get p.functions f ≡ None) → Called p W n close f needed ty xs s r bits
+  ended_called close zero f needed ty xs x h = deep_called close zero f needed ty xs x refl
+  ended_called close (suc n) f needed ty xs x h = missing_called close (suc n) f needed ty xs x (h (omega arith))
 
 -- ---- the body is reached
-module _ (p : Program) (W : Mode) (n m f : ℕ) (needed : Bool) (ty : Option IntType) (fn : Function) (s : Sym) (xs : List Argument) (e : n ≡ suc m) (q : slice_get p.functions f ≡ Some fn) (h : CallReady p W n f needed ty s xs) where
+module _ (p : Program) (W : Mode) (n m f : ℕ) (close : Spot) (needed : Bool) (ty : Option IntType) (fn : Function) (s : Sym) (xs : List Argument) (e : n ≡ suc m) (q : slice_get p.functions f ≡ Some fn) (h : CallReady p W n close f needed ty s xs) where
   same_weight : weight_of_call p W n f xs ≡ call_weight + weight_of_run p W m fn xs
-  same_weight = ap (λ k. weight_of_call p W k f xs) e ∙ ap (λ o. call_weight + (set_cost p (params_of o) xs + function_of p (weighing (weight_in p W.placed m)) (placed_weight p W.placed) o)) q
+  same_weight = ap (λ k. weight_of_call p W k f xs) e ∙ ap (λ o. call_weight + (set_cost p (params_of o) xs + function_of p (nodes p W.scale m) o)) q
 
   same_bits : bits_of_call p W n f ≡ bits_of_run p W m fn
-  same_bits = ap (λ k. bits_in p k f) e ∙ ap (λ o. function_of p (drawing (bits_in p m)) nowhere o) q
+  same_bits = ap (λ k. bits_in p W.scale k f) e ∙ ap (λ o. function_of p (bits p W.scale m) o) q
 
   -- the body weighs what the function does, unfolded once more
-  pub found_weight : weight_in p W.placed n f ≡ function_body p (weighing (weight_in p W.placed m)) (placed_weight p W.placed) fn.result fn.body
-  found_weight = ap (λ k. weight_in p W.placed k f) e ∙ ap (λ o. function_of p (weighing (weight_in p W.placed m)) (placed_weight p W.placed) o) q
+  pub found_nodes : nodes_in p W.scale n (set_cost p (params_of (slice_get p.functions f)) xs) f ≡ set_cost p (params_of (slice_get p.functions f)) xs + function_body p (nodes p W.scale m) fn.result fn.body
+  found_nodes = let c = set_cost p (params_of (slice_get p.functions f)) xs in ap (λ k. nodes_in p W.scale k c f) e ∙ ap (λ o. c + function_of p (nodes p W.scale m) o) q
 
-  pub found_ready : IsTrue (types_fit p) → RunReady p W m needed fn s xs
+  pub found_ready : IsTrue (types_fit p) → RunReady p W m close needed fn s xs
   found_ready t = record {
     fits = h.fits;
     arguments = h.arguments;
@@ -166,13 +165,13 @@ module _ (p : Program) (W : Mode) (n m f : ℕ) (needed : Bool) (ty : Option Int
     room = omega (arith, same_weight, same_bits, h.room);
   }
 
-  pub found_called : {r : Sym} {bits : List Bit} → HasRun p W m needed fn xs s r bits → Called p W n f needed ty xs s r bits
+  pub found_called : {r : Sym} {bits : List Bit} → HasRun p W m close needed fn xs s r bits → Called p W n close f needed ty xs s r bits
   found_called {r} {bits} x =
       let k = h.result fn q in
       record {
         bits_in = are_of p.model ty r.net bits (subst (λ t. AreTyped p.model (type_or_int t) r.net bits) k x.bits_in);
-        follows = λ site en.
-            follows_as p W.duties (call_follows p W W.duties (run_in p (judged p W) (suc m)) site fn (λ v. values_at p v s.net xs) (x.follows site en))
+        follows = λ site ec en.
+            follows_as p W.duties (call_follows p W W.duties (run_in p (judged p W) (suc m)) site fn (λ v. values_at p v s.net xs) (x.follows site ec en))
             (λ v z w. wanted_of p.model needed ty r.net bits v z (subst (λ t. is_value needed (typed p.model (type_or_int t) v r.net bits) z) k w))
             (λ v t. ap₂ (λ k o. call_of p (judged p W) (run_in p (judged p W) k) site o (values_at p v s.net xs) t) (sym e) (sym q))
             (omega (arith, same_weight)) (omega (arith, same_bits));
@@ -196,23 +195,31 @@ module _ (p : Program) (W : Mode) (n : ℕ) (at : Around) (want : Use) (spot clo
     same_passed : set_cost p (params_of (slice_get p.functions f)) xs ≡ passed p (params_of (slice_get p.functions f)) es
     same_passed = set_passed p (params_of (slice_get p.functions f)) xs es x.types
 
-    pub call_ready : CallReady p W n f needed ty m xs
-    call_ready = record {
-      fits = x.follows.fits;
-      arguments = x.bits_in;
+    called_weight : weight_of_call p W n f xs ≡ call_weight + nodes_in p W.scale n (passed p (params_of (slice_get p.functions f)) es) f
+    called_weight = ap (λ k. call_weight + nodes_in p W.scale n k f) same_passed
+
+    pub call_ready : {k : Sym} → Turned p (W.scale.enters close) 0 m k (λ v. telling W (Enter close)) → CallReady p W n close f needed ty k xs
+    call_ready ev = record {
+      fits = ev.fits;
+      arguments = arguments_added p ev.added xs x.bits_in;
       result = (called_types ty es (slice_get p.functions f) types_of_call.0).1;
       void = λ e. en ∙ void_of want ty e;
-      room = omega (arith, same_passed, h.room, (longer_by x.follows.added).1);
+      room = omega (arith, called_weight, h.room, (longer_by x.follows.added).1, (longer_by ev.added).1);
     }
 
-    pub call_values : {r : Sym} {bits : List Bit} → Turned p 0 0 m m (λ v. telling W (Enter close)) → Called p W n f needed ty xs m r bits → Values p W n at want (Expr spot ty (Call (Defined f) es close)) s r bits
-    call_values {r} {bits} ev y =
+    -- what the call costs after its arguments is less than the expression
+    pub call_within : nodes_in p W.scale n (set_cost p (params_of (slice_get p.functions f)) xs) f + 64 ≤ weight_of p W n (Expr spot ty (Call (Defined f) es close))
+    call_within = omega (arith, called_weight)
+
+    pub call_values : {k r : Sym} {bits : List Bit} → Turned p (W.scale.enters close) 0 m k (λ v. telling W (Enter close)) → Called p W n close f needed ty xs k r bits → Values p W n at want (Expr spot ty (Call (Defined f) es close)) s r bits
+    call_values {k} {r} {bits} ev y =
         let whole = Expr spot ty (Call (Defined f) es close) in
         let site : Site = record { spot = spot; close = close; needed = is_used want && is_some ty } in
         record {
           bits_in = y.bits_in;
           follows = follows_as p W.duties (follows_then p W.duties (weight_of p W n whole) (bits_of p W n whole) (λ v vs s. bind (tell p W (Enter close) s) (λ u. calls_in p (judged p W) n site f vs)) x.follows
-              (follows_then p W.duties (weight_of_call p W n f xs) (bits_of_call p W n f) (λ v u. calls_in p (judged p W) n site f (values_at p v m.net xs)) (told_follows p W (λ v. Enter close) ev) (y.follows site (sym en)) (λ v u q t. refl) (omega arith) (omega arith))
-              (λ v vs q t. ap (λ z. bind (tell p W (Enter close) t) (λ u. calls_in p (judged p W) n site f z)) q) (omega (arith, same_passed)) (omega arith))
+              (follows_then p W.duties (W.scale.enters close + (W.scale.returns close + weight_of_call p W n f xs)) (bits_of_call p W n f) (λ v u. calls_in p (judged p W) n site f (values_at p v m.net xs)) (told_follows p W (λ v. Enter close) ev)
+              (y.follows site refl (sym en)) (λ v u q t. ap (λ z. calls_in p (judged p W) n site f z t) (sym (values_added p ev.added v xs x.bits_in))) (omega arith) (omega arith))
+              (λ v vs q t. ap (λ z. bind (tell p W (Enter close) t) (λ u. calls_in p (judged p W) n site f z)) q) (omega (arith, called_weight)) (omega arith))
               (λ v z w. wanted_at p.model want ty r.net bits v z (λ u. w (en ∙ u))) (λ v t. refl) (omega arith) (omega arith);
         }

@@ -1,5 +1,5 @@
 -- A function that is run: its parameters, its body, and what comes back from it.
-use Rattle.std.proofs.Common.{◌≡◌, ℕ, suc, ◌+◌, ◌<◌, ◌^◌, ℤ, Bool, not, ◌&&◌, List, length, sym, ◌∙◌, ap, subst, arith, Option, true, refl}
+use Rattle.std.proofs.Common.{◌≡◌, ℕ, suc, ◌+◌, ◌<◌, ◌^◌, ℤ, Bool, not, ◌&&◌, List, length, sym, ◌∙◌, ap, ap₂, subst, arith, Option, true, refl}
 use Rattle.c_core.specs.Tree.{Program, Form, Stmt, Function}
 use Rattle.c_core.specs.declared.number.IntType.{IntType}
 use Rattle.c_core.specs.declared.number.Spot.{Spot}
@@ -15,10 +15,14 @@ use Rattle.circuits.specs.declared.net.NetNode.{NetNode}
 use Rattle.circuits.specs.Net.{holds, IsIn}
 use Rattle.circuits.specs.Numbers.{typed, AreTyped}
 use Rattle.sym_state.specs.declared.state.Sym.{Sym}
-use Rattle.sym_state.specs.Standing.{IsState, Added, Turned, stopped}
+use Rattle.sym_state.specs.Standing.{stand, IsState, Added, Turned, stopped}
 use Rattle.sym_state.specs.Telling.{telling}
 use Rattle.sym_state.proofs.Composed.{follows_as}
-use Rattle.sym_state.proofs.Nets.{added_then, longer_by, in_added, typed_added, are_typed_added}
+use Rattle.sym_state.proofs.Nets.{added_then, longer_by, in_added, holds_added, typed_added, are_typed_added}
+use Rattle.sym_state.proofs.Telling.{told_as}
+use Rattle.sym_state.proofs.Turning.{turned_as}
+use Rattle.sym_walk.specs.Hooks.{ComesBack}
+use Rattle.c_meaning.specs.Meaning.{Site}
 use Rattle.sym_flow.specs.declared.calling.Caller.{Caller}
 use Rattle.sym_flow.specs.Calling.{value_given, is_value, Enters, IsAround, IsAroundIn, CameBack}
 use Rattle.sym_flow.specs.Leaving.{Runs}
@@ -41,11 +45,11 @@ around_in {net = net} p r a h x g = record {
 abbrev function : Option IntType → List ℕ → Spot → Form → Function
 function result params at f = record { result = result; params = params; body = Stmt at f }
 
-module _ (p : Program) (W : Mode) (n : ℕ) (needed : Bool) (result : Option IntType) (params : List ℕ) (at : Spot) (f : Form) (xs : List Argument) where
+module _ (p : Program) (W : Mode) (n : ℕ) (close : Spot) (needed : Bool) (result : Option IntType) (params : List ℕ) (at : Spot) (f : Form) (xs : List Argument) where
   abbrev fn : Function
   fn = function result params at f
 
-  module _ {a b : Sym} (ty : IntType) (h : RunReady p W n needed fn a xs) (x : Enters p ty a b) where
+  module _ {a b : Sym} (ty : IntType) (h : RunReady p W n close needed fn a xs) (x : Enters p ty a b) where
     pub entered_arguments : AreArguments p b.net xs
     entered_arguments = arguments_added p x.added xs h.arguments
 
@@ -80,22 +84,41 @@ module _ (p : Program) (W : Mode) (n : ℕ) (needed : Bool) (result : Option Int
             ∙ sym (params_then p W params (values_at p v a.net xs) (run_in p (judged p W) (suc n) fn) s))
             (omega arith) (omega arith)
 
-        pub need_room : {g : Sym} {bits : List Bit} {gave : Bit} {r : Caller} {k : ℕ} → CameBack p r k d g bits gave → length g.net < 2 ^ 28
-        need_room w = omega (arith, h.room, (longer_by whole_added).1, (longer_by w.added).1)
+        back_in : {g : Sym} {bits : List Bit} {gave : Bit} {r : Caller} {k : ℕ} → CameBack p r k d g bits gave → AreTyped p.model (type_or_int result) g.net bits
+        back_in {g} {bits} w = subst (λ t. AreTyped p.model t g.net bits) (z.result ∙ (y W result).result ∙ x.result ∙ e) w.bits_in
 
-        pub function_run : {g : Sym} {bits : List Bit} {gave : Bit} (r : Caller) (k : ℕ) → IsAround r a → k ≡ length a.cells.items → CameBack p r k d g bits gave
-            → ((close : Spot) (o : (ℕ → Bool) → Option ℤ) → Turned p 0 0 g g (λ v. telling W (Return close (o v))))
-            → {m : Sym} → Turned p 1 0 g m (λ v. stopped (needed && not (holds v g.net gave))) → HasRun p W n needed fn xs a m bits
-        function_run {g} {bits} {gave} r k u ek w ev {m} y1 =
-            let same : d.result ≡ type_or_int result = z.result ∙ (y W result).result ∙ x.result ∙ e in
-            let value : (ℕ → Bool) → ℤ = λ v. typed p.model (type_or_int result) v g.net bits in
-            let bits_in : AreTyped p.model (type_or_int result) g.net bits = subst (λ t. AreTyped p.model t g.net bits) same w.bits_in in
-            let back = called_follows p W.duties result (set_cost p params xs + (form_glue + weight_of_form p W n result at f) + 3) ty (λ v. holds v g.net gave) value x whole_runs
-            (came_returns p r k a d g bits gave h.fits u whole_added ek w) (λ v. w.gave v) (λ v. ap (λ t. typed p.model t v g.net bits) (sym same) ∙ w.value v) (omega arith) in
-            record {
-              bits_in = are_typed_added y1.added bits_in;
-              follows = λ site en.
-                  let end : Turned p 1 0 g m (λ v. stopped (site.needed && not (holds v g.net gave))) = subst (λ b. Turned p 1 0 g m (λ v. stopped (b && not (holds v g.net gave)))) (sym en) y1 in
-                  let done = returned_follows p W result site (λ q. en ∙ h.void q) (λ v. with_params p (judged p W) params (values_at p v a.net xs) (run_in p (judged p W) (suc n) fn) true) (weight_of_run p W n fn xs) (λ v. holds v g.net gave) value back (ev site.close (λ v. value_given result (holds v g.net gave) (value v))) end (omega arith) in
-                  follows_as p W.duties done (λ v o q. subst (λ b. is_value b (typed p.model (type_or_int result) v m.net bits) o) en (subst (λ t. is_value site.needed t o) (sym (typed_added y1.added p.model (type_or_int result) v bits bits_in)) q)) (λ v s. refl) (omega arith) (omega arith);
-            }
+        -- the value is of the function's type, and there is room for its event
+        pub told_in : {g : Sym} {bits : List Bit} {gave : Bit} {r : Caller} {k : ℕ} → CameBack p r k d g bits gave → AreTyped p.model ty g.net bits
+        told_in {g} {bits} w = subst (λ t. AreTyped p.model t g.net bits) (sym e) (back_in w)
+
+        pub told_room : {g : Sym} {bits : List Bit} {gave : Bit} {r : Caller} {k : ℕ} → CameBack p r k d g bits gave → length g.net + W.scale.returns close < 2 ^ 27
+        told_room w = omega (arith, h.room, (longer_by whole_added).1, (longer_by w.added).1)
+
+        module _ {g t : Sym} {bits : List Bit} {gave : Bit} (r : Caller) (k : ℕ) (w : CameBack p r k d g bits gave) (ev : ComesBack p W close result ty bits gave g t) where
+          pub need_in : IsIn t.net gave
+          need_in = in_added ev.added gave w.gave_in
+
+          pub need_room : length t.net < 2 ^ 28
+          need_room = omega (arith, h.room, (longer_by whole_added).1, (longer_by w.added).1, (longer_by ev.added).1)
+
+          pub function_run : IsAround r a → k ≡ length a.cells.items → {m : Sym} → Turned p 1 0 t m (λ v. stopped (needed && not (holds v t.net gave))) → HasRun p W n close needed fn xs a m bits
+          function_run u ek {m} y1 =
+              let value : (ℕ → Bool) → ℤ = λ v. typed p.model (type_or_int result) v g.net bits in
+              let bits_in : AreTyped p.model (type_or_int result) g.net bits = back_in w in
+              let same : d.result ≡ type_or_int result = z.result ∙ (y W result).result ∙ x.result ∙ e in
+              let back = called_follows p W.duties result (set_cost p params xs + (form_glue + weight_of_form p W n result at f) + 3) ty (λ v. holds v g.net gave) value x whole_runs
+              (came_returns p r k a d g bits gave h.fits u whole_added ek w) (λ v. w.gave v) (λ v. ap (λ t. typed p.model t v g.net bits) (sym same) ∙ w.value v) (omega arith) in
+              let event : (site : Site) → site.close ≡ close → Turned p (W.scale.returns close) 0 g t (λ v. telling W (Return site.close (value_given result (holds v g.net gave) (value v)))) =
+              λ site ec. told_as p W (λ v. Return site.close (value_given result (holds v g.net gave) (value v))) ev (λ v. ap₂ (λ c i. Return c (value_given result (holds v g.net gave) (typed p.model i v g.net bits))) (sym ec) e) in
+              let stays : (v : ℕ → Bool) → holds v t.net gave ≡ holds v g.net gave = λ v. holds_added ev.added v gave w.gave_in in
+              record {
+                bits_in = are_typed_added y1.added (are_typed_added ev.added bits_in);
+                follows = λ site ec en.
+                    let end : Turned p 1 0 t m (λ v. stopped (site.needed && not (holds v g.net gave))) =
+                    turned_as p (λ v. stopped (site.needed && not (holds v g.net gave))) (subst (λ b. Turned p 1 0 t m (λ v. stopped (b && not (holds v t.net gave)))) (sym en) y1)
+                    (λ v. ap (λ b. stopped (site.needed && not b) (stand p v t)) (stays v)) in
+                    let same_value : (v : ℕ → Bool) → typed p.model (type_or_int result) v m.net bits ≡ value v = λ v.
+                    typed_added y1.added p.model (type_or_int result) v bits (are_typed_added ev.added bits_in) ∙ typed_added ev.added p.model (type_or_int result) v bits bits_in in
+                    let done = returned_follows p W result site (λ q. en ∙ h.void q) (λ v. with_params p (judged p W) params (values_at p v a.net xs) (run_in p (judged p W) (suc n) fn) true) (W.scale.returns close + weight_of_run p W n fn xs) (λ v. holds v g.net gave) value back (event site ec) end (omega arith) in
+                    follows_as p W.duties done (λ v o q. subst (λ b. is_value b (typed p.model (type_or_int result) v m.net bits) o) en (subst (λ t. is_value site.needed t o) (sym (same_value v)) q)) (λ v s. refl) (omega arith) (omega arith);
+              }

@@ -26,8 +26,8 @@ use Rattle.c_meaning.specs.Objects.{size_of_object, columns_of_object, type_of_o
 use Rattle.c_meaning.proofs.TypeFacts.{both, of_both}
 use Rattle.sym_flow.proofs.Declares.{no_ticks}
 use Rattle.sym_flow.proofs.Draws.{after_both}
-use Rattle.sym_weight.specs.Sum.{Sum}
-use Rattle.sym_weight.specs.Sum as sum
+use Rattle.sym_scale.specs.Cost.{Cost}
+use Rattle.sym_scale.specs.Cost as cost
 
 -- ---- results of parts
 -- a statement, and then nothing
@@ -51,60 +51,54 @@ front_more : {A : Type 0} (xs : List A) (k : ℕ) (d : A) → k < length xs → 
 front_more xs k d h = let e : k + 1 ≡ suc k = omega arith in ap (λ j. take j xs) e ∙ take-suc xs k d h
 
 -- ---- amounts add up
-abbrev pub adding : (ℕ → ℕ → ℕ) → (ℕ → ℕ) → Sum
-adding part body = record { Amount = ℕ; none = 0; both = λ a b. a + b; part = part; body = body }
-
-module _ (p : Program) (part : ℕ → ℕ → ℕ) (body : ℕ → ℕ) where
-  abbrev S : Sum
-  S = adding part body
-
+module _ (p : Program) (C : Cost) where
   -- ---- statements of a block
-  module _ (at_place : Bool → Spot → ℕ) (gives : Option IntType) where
-    statements_append : (xs ys : List Stmt) → sum.statements p S at_place gives (stmts_view (xs ++ ys)) ≡ sum.statements p S at_place gives (stmts_view xs) + sum.statements p S at_place gives (stmts_view ys)
+  module _ (gives : Option IntType) where
+    statements_append : (xs ys : List Stmt) → cost.statements p C gives (stmts_view (xs ++ ys)) ≡ cost.statements p C gives (stmts_view xs) + cost.statements p C gives (stmts_view ys)
     statements_append [] ys = omega arith
     statements_append (x ∷ xs) ys = omega (arith, statements_append xs ys)
 
     pub statements_more : (xs : List Stmt) (k : ℕ) (d : Stmt) → k < length xs
-        → sum.statements p S at_place gives (stmts_view (take (k + 1) xs)) ≡ sum.statements p S at_place gives (stmts_view (take k xs)) + sum.statement p S at_place gives (stmt_view (get_or xs k d))
-    statements_more xs k d h = omega (arith, ap (λ z. sum.statements p S at_place gives (stmts_view z)) (front_more xs k d h), statements_append (take k xs) (get_or xs k d ∷ []))
+        → cost.statements p C gives (stmts_view (take (k + 1) xs)) ≡ cost.statements p C gives (stmts_view (take k xs)) + cost.statement p C gives (stmt_view (get_or xs k d))
+    statements_more xs k d h = omega (arith, ap (λ z. cost.statements p C gives (stmts_view z)) (front_more xs k d h), statements_append (take k xs) (get_or xs k d ∷ []))
 
-    pub statements_within : (xs : List Stmt) (k : ℕ) → sum.statements p S at_place gives (stmts_view (take k xs)) ≤ sum.statements p S at_place gives (stmts_view xs)
-    statements_within xs k = omega (arith, ap (λ z. sum.statements p S at_place gives (stmts_view z)) (take-append-drop k xs), statements_append (take k xs) (drop k xs))
+    pub statements_within : (xs : List Stmt) (k : ℕ) → cost.statements p C gives (stmts_view (take k xs)) ≤ cost.statements p C gives (stmts_view xs)
+    statements_within xs k = omega (arith, ap (λ z. cost.statements p C gives (stmts_view z)) (take-append-drop k xs), statements_append (take k xs) (drop k xs))
 
   -- ---- declared names
-  names_append : (xs ys : List Declared) → sum.declared p S (names_view (xs ++ ys)) ≡ sum.declared p S (names_view xs) + sum.declared p S (names_view ys)
+  names_append : (xs ys : List Declared) → cost.declared p C (names_view (xs ++ ys)) ≡ cost.declared p C (names_view xs) + cost.declared p C (names_view ys)
   names_append [] ys = omega arith
   names_append (x ∷ xs) ys = omega (arith, names_append xs ys)
 
-  pub names_more : (xs : List Declared) (k : ℕ) (d : Declared) → k < length xs → sum.declared p S (names_view (take (k + 1) xs)) ≡ sum.declared p S (names_view (take k xs)) + sum.declared p S (names_view (get_or xs k d ∷ []))
-  names_more xs k d h = ap (λ z. sum.declared p S (names_view z)) (front_more xs k d h) ∙ names_append (take k xs) (get_or xs k d ∷ [])
+  pub names_more : (xs : List Declared) (k : ℕ) (d : Declared) → k < length xs → cost.declared p C (names_view (take (k + 1) xs)) ≡ cost.declared p C (names_view (take k xs)) + cost.declared p C (names_view (get_or xs k d ∷ []))
+  names_more xs k d h = ap (λ z. cost.declared p C (names_view z)) (front_more xs k d h) ∙ names_append (take k xs) (get_or xs k d ∷ [])
 
-  pub names_within : (xs : List Declared) (k : ℕ) → sum.declared p S (names_view (take k xs)) ≤ sum.declared p S (names_view xs)
-  names_within xs k = omega (arith, ap (λ z. sum.declared p S (names_view z)) (take-append-drop k xs), names_append (take k xs) (drop k xs))
+  pub names_within : (xs : List Declared) (k : ℕ) → cost.declared p C (names_view (take k xs)) ≤ cost.declared p C (names_view xs)
+  names_within xs k = omega (arith, ap (λ z. cost.declared p C (names_view z)) (take-append-drop k xs), names_append (take k xs) (drop k xs))
 
   -- ---- values of an initializer
   module _ (o : ℕ) where
-    initials_append : (xs ys : List Expr) → sum.initials p S o (exprs_view (xs ++ ys)) ≡ sum.initials p S o (exprs_view xs) + sum.initials p S o (exprs_view ys)
+    initials_append : (xs ys : List Expr) → cost.initials p C o (exprs_view (xs ++ ys)) ≡ cost.initials p C o (exprs_view xs) + cost.initials p C o (exprs_view ys)
     initials_append [] ys = omega arith
     initials_append (x ∷ xs) ys = omega (arith, initials_append xs ys)
 
-    pub initials_more : (xs : List Expr) (k : ℕ) (d : Expr) → k < length xs → sum.initials p S o (exprs_view (take (k + 1) xs)) ≡ sum.initials p S o (exprs_view (take k xs)) + sum.initials p S o (exprs_view (get_or xs k d ∷ []))
-    initials_more xs k d h = ap (λ z. sum.initials p S o (exprs_view z)) (front_more xs k d h) ∙ initials_append (take k xs) (get_or xs k d ∷ [])
+    pub initials_more : (xs : List Expr) (k : ℕ) (d : Expr) → k < length xs → cost.initials p C o (exprs_view (take (k + 1) xs)) ≡ cost.initials p C o (exprs_view (take k xs)) + cost.initials p C o (exprs_view (get_or xs k d ∷ []))
+    initials_more xs k d h = ap (λ z. cost.initials p C o (exprs_view z)) (front_more xs k d h) ∙ initials_append (take k xs) (get_or xs k d ∷ [])
 
-    pub initials_within : (xs : List Expr) (k : ℕ) → sum.initials p S o (exprs_view (take k xs)) ≤ sum.initials p S o (exprs_view xs)
-    initials_within xs k = omega (arith, ap (λ z. sum.initials p S o (exprs_view z)) (take-append-drop k xs), initials_append (take k xs) (drop k xs))
+    pub initials_within : (xs : List Expr) (k : ℕ) → cost.initials p C o (exprs_view (take k xs)) ≤ cost.initials p C o (exprs_view xs)
+    initials_within xs k = omega (arith, ap (λ z. cost.initials p C o (exprs_view z)) (take-append-drop k xs), initials_append (take k xs) (drop k xs))
 
   -- ---- rows of an initializer
   module _ (o : ℕ) where
-    rows_append : (xs ys : List Row) → sum.row_initials p S o (rows_view (xs ++ ys)) ≡ sum.row_initials p S o (rows_view xs) + sum.row_initials p S o (rows_view ys)
+    rows_append : (xs ys : List Row) → cost.row_initials p C o (rows_view (xs ++ ys)) ≡ cost.row_initials p C o (rows_view xs) + cost.row_initials p C o (rows_view ys)
     rows_append [] ys = omega arith
     rows_append (x ∷ xs) ys = omega (arith, rows_append xs ys)
 
-    pub rows_more : (xs : List Row) (k : ℕ) (d : Row) → k < length xs → sum.row_initials p S o (rows_view (take (k + 1) xs)) ≡ sum.row_initials p S o (rows_view (take k xs)) + sum.initials p S o (exprs_view (get_or xs k d).values)
-    rows_more xs k d h = omega (arith, ap (λ z. sum.row_initials p S o (rows_view z)) (front_more xs k d h), rows_append (take k xs) (get_or xs k d ∷ []))
+    pub rows_more : (xs : List Row) (k : ℕ) (d : Row) → k < length xs → cost.row_initials p C o (rows_view (take (k + 1) xs)) ≡ cost.row_initials p C o (rows_view (take k xs)) + cost.initials p C o (exprs_view (get_or xs k d).values)
+    rows_more xs k d h = omega (arith, ap (λ z. cost.row_initials p C o (rows_view z)) (front_more xs k d h), rows_append (take k xs) (get_or xs k d ∷ []))
 
-    pub rows_within : (xs : List Row) (k : ℕ) → sum.row_initials p S o (rows_view (take k xs)) ≤ sum.row_initials p S o (rows_view xs)
-    rows_within xs k = omega (arith, ap (λ z. sum.row_initials p S o (rows_view z)) (take-append-drop k xs), rows_append (take k xs) (drop k xs))
+    pub rows_within : (xs : List Row) (k : ℕ) → cost.row_initials p C o (rows_view (take k xs)) ≤ cost.row_initials p C o (rows_view xs)
+    rows_within xs k = omega (arith, ap (λ z. cost.row_initials p C o (rows_view z)) (take-append-drop k xs), rows_append (take k xs) (drop k xs))
 
 -- ---- typed parts at an index
 pub statement_typed : (q : Stm → Bool) (xs : List Stmt) (k : ℕ) (d : Stmt) → k < length xs → IsTrue (every_statement_of q (stmts_view xs)) → IsTrue (every_statement q (stmt_view (get_or xs k d)))

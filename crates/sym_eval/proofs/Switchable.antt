@@ -26,10 +26,10 @@ use Rattle.c_meaning.specs.declared.run.Event.TheVariants.{Branch}
 use Rattle.c_meaning.specs.Run.{way_for}
 use Rattle.sym_meaning.specs.Judged.{judged, selected}
 use Rattle.sym_state.specs.Telling.{telling}
-use Rattle.sym_state.proofs.Telling.{told_follows, follows_map}
+use Rattle.sym_state.proofs.Telling.{told_as, told_follows}
 use Rattle.c_meaning.specs.Meaning.{Used}
 use Rattle.c_meaning.specs.Objects.{type_of}
-use Rattle.c_meaning.specs.Run.{arm_for}
+use Rattle.c_meaning.specs.Run.{arm_for, is_case}
 use Rattle.c_meaning.proofs.TypeFacts.{both, neither}
 use Rattle.circuits.specs.declared.net.Bit.{Bit}
 use Rattle.circuits.specs.declared.net.NetNode.{NetNode}
@@ -41,9 +41,9 @@ use Rattle.sym_state.specs.Standing.{Stand, stand, IsState, Turned, with_live}
 use Rattle.sym_state.specs.Following.{Follows}
 use Rattle.sym_state.proofs.Composed.{follows_then, net_follows}
 use Rattle.sym_choices.proofs.Labels.{label_of, labels_are, arms_more}
-use Rattle.sym_state.proofs.Nets.{in_added, holds_added, all_added, longer_by}
+use Rattle.sym_state.proofs.Nets.{in_added, holds_added, typed_added, all_added, longer_by}
 use Rattle.sym_choices.proofs.Held.{all_held}
-use Rattle.sym_state.proofs.Turning.{turned_as, turned_then}
+use Rattle.sym_state.proofs.Turning.{turned_then}
 use Rattle.sym_choices.specs.Cases.{AreCases, cases_cost}
 use Rattle.sym_values.specs.Valuing.{Reckoned}
 use Rattle.sym_choices.specs.Choosing.{done_from, Entered}
@@ -51,24 +51,24 @@ use Rattle.sym_flow.specs.Ways.{Became, fresh_broken, behind_loop}
 use Rattle.sym_flow.proofs.Bodies.{out_of_loop, broken_runs}
 use Rattle.sym_flow.proofs.Branching.{arms_run}
 use Rattle.sym_flow.proofs.Statements.{follows_runs, runs_then, runs_as, skip_runs}
-use Rattle.sym_exprs.specs.Evaluating.{weight_of, bits_of}
+use Rattle.sym_exprs.specs.Evaluating.{bits_of}
 use Rattle.sym_exprs.proofs.Costs.{conversion_costs}
 use Rattle.sym_exprs.proofs.Typed.{has_one}
-use Rattle.sym_weight.specs.Sum as sum
+use Rattle.sym_scale.specs.Cost as cost
+use Rattle.sym_scale.specs.Cost.{Cost}
 use Rattle.sym_weight.specs.Table.{labels_weight, chooses}
-use Rattle.sym_weight.specs.Weight.{weight_in, bits_in, placed_weight, nowhere}
+use Rattle.sym_scale.specs.Cost.{nodes, bits}
 use Rattle.sym_eval.specs.Control.{FullReady, FullGives}
 use Rattle.sym_eval.specs.Doing.{calls, weight_of_block, bits_of_block, BlockReady, BlockDoes, form_glue, weight_of_form, bits_of_form, FormReady, FormDoes}
-use Rattle.sym_eval.specs.Switching.{arm_glue, choice_cost, ChoiceReady, Chooses, arm_done, ArmReady, ArmDoes, arms_done, weight_of_arms, bits_of_arms, ArmsReady, ArmsDo}
+use Rattle.sym_eval.specs.Switching.{arm_glue, choice_cost, weight_of_choice, ChoiceReady, Chooses, arm_done, ArmReady, ArmDoes, arms_done, weight_of_arms, bits_of_arms, ArmsReady, ArmsDo}
 use Rattle.sym_eval.proofs.Fulls.{only_one, form_types, full_in, number_as}
-use Rattle.sym_eval.proofs.Sequences.{adding}
 use Rattle.sym_eval.proofs.Switched.{chosen_is, arms_snoc}
 use Rattle.sym_eval.proofs.Turns.{became_as, kept_holds}
 
 -- ---- amounts of arms add up
-module _ (p : Program) (part : ℕ → ℕ → ℕ) (body : ℕ → ℕ) (at_place : Bool → Spot → ℕ) (gives : Option IntType) where
+module _ (p : Program) (C : Cost) (gives : Option IntType) where
   abbrev all : Stms → ℕ
-  all b = sum.statements p (adding part body) at_place gives b
+  all b = cost.statements p C gives b
 
   joined_amount : (b c : Stms) → all (joined b c) ≡ all b + all c
   joined_amount NoStm c = omega arith
@@ -124,12 +124,12 @@ defaults_more Default ls = refl
 counted : (ls : List ArmLabel) → defaults ls ≡ count_by is_default ls
 counted ls = is_count_by defaults is_default refl defaults_more ls
 
-own_cost : (m : DataModel) (ty : IntType) (ls : List ArmLabel) → cases_cost m ty ls + 5 * length ls ≤ labels_weight m ty ls + 5 * defaults ls
+own_cost : (m : DataModel) (ty : IntType) (ls : List ArmLabel) → cases_cost m ty ls + 6 * length ls ≤ labels_weight m ty ls + 6 * defaults ls
 own_cost m ty [] = omega arith
 own_cost m ty (Case c ∷ ls) = omega (arith, own_cost m ty ls)
 own_cost m ty (Default ∷ ls) = omega (arith, own_cost m ty ls)
 
-pub labels_cost : (m : DataModel) (ty : IntType) (ls : List ArmLabel) → cases_cost m ty ls + 5 * length ls ≤ labels_weight m ty ls + 5 * count_by is_default ls
+pub labels_cost : (m : DataModel) (ty : IntType) (ls : List ArmLabel) → cases_cost m ty ls + 6 * length ls ≤ labels_weight m ty ls + 6 * count_by is_default ls
 labels_cost m ty ls = omega (arith, own_cost m ty ls, counted ls)
 
 pub labels_many : (arms : List Arm) → length (labels_in (switch_view arms)) ≡ length arms
@@ -153,7 +153,7 @@ switch_types m (Expr spot (Some ty) n) b h =
 
 module _ (p : Program) (W : Mode) (n : ℕ) where
   -- ---- the choice of an arm
-  module _ (at : Spot) (e : Exp) (ls : List ArmLabel) {s : Sym} (r : ChoiceReady p W n s e ls) where
+  module _ (at : Spot) (e : Exp) (ls : List ArmLabel) {s : Sym} (r : ChoiceReady p W n at s e ls) where
     abbrev promoted : IntType
     promoted = promote_of (type_of e)
 
@@ -183,8 +183,8 @@ module _ (p : Program) (W : Mode) (n : ℕ) where
         cases_room = omega (arith, (longer_by x.follows.added).1, (longer_by y.turned.added).1, r.room)
 
         module _ {c : Sym} {cs : List Bit} (z : AreCases p promoted ys ls b c cs) where
-          pub entries_room : (k : ℕ) → k ≡ length ls → length c.net + 2 * k < 2 ^ 28
-          entries_room k q = omega (arith, (longer_by x.follows.added).1, (longer_by y.turned.added).1, (longer_by z.turned.added).1, r.room, q)
+          pub told_room : (k : ℕ) → k ≡ length ls → length c.net + (k + W.scale.test at) < 2 ^ 27
+          told_room k q = omega (arith, (longer_by x.follows.added).1, (longer_by y.turned.added).1, (longer_by z.turned.added).1, r.room, q)
 
           pub cases_many : length cs ≡ length ls
           cases_many = let v : ℕ → Bool = λ k. false in sym (length-map cs (holds v c.net)) ∙ ap length (z.are v) ∙ length-map ls _
@@ -192,23 +192,36 @@ module _ (p : Program) (W : Mode) (n : ℕ) where
           done_many : {m : ℕ} {f : (ℕ → Bool) → ℤ} {d : Sym} {bits : List Bit} (v : ℕ → Bool) → Entered p m ls f c d bits → length bits ≡ length ls
           done_many {f = f} {d = d} {bits = bits} v w = sym (length-map bits (holds v d.net)) ∙ ap length (w.are v) ∙ done_length (arm_for (f v) ls) ls
 
-          pub chosen_chooses : {d : Sym} {bits : List Bit} {told : Sym} (k : ℕ) → k ≡ length ls → Entered p (2 * k) ls (λ v. typed p.model promoted v b.net ys) c d bits
-              → Turned p 0 0 d told (λ v. telling W (Branch at (way_for (typed p.model promoted v b.net ys) ls))) → Chooses p W n at e ls s told bits
-          chosen_chooses {d} {bits} {told} k q w ev =
-              let value : (ℕ → Bool) → ℤ = λ v. typed p.model promoted v b.net ys in
-              let two = turned_then p (conversion_cost p.model (type_of e) promoted + cases_cost p.model promoted ls) 0 y.turned z.turned (omega arith) (omega arith) in
-              let three = turned_then p (choice_cost p W n (type_of e) ls) 0 two w.turned (omega (arith, q)) (omega arith) in
-              let chosen : Follows W.duties p 0 0 d told (λ v k. map (holds v told.net) bits ≡ done_from k ls) (λ v. selected p W at (value v) ls) =
-              follows_map p W (λ v u. arm_for (value v) ls) (told_follows p W (λ v. Branch at (way_for (value v) ls)) ev) (λ v u t. all_held ev.added v bits w.inside ∙ w.are v) in
-              record {
-                many = done_many (λ k. false) w;
-                inside = all_added ev.added bits w.inside;
-                follows = follows_then p W.duties (weight_of p W n e + choice_cost p W n (type_of e) ls) (bits_of p W n e) (λ v z. selected p W at (fit p.model promoted z) ls) x.follows
-                    (follows_then p W.duties (choice_cost p W n (type_of e) ls) 0 (λ v u. selected p W at (value v) ls)
-                    (net_follows p W.duties {S = λ v u. Unit {0}} (λ v. tt {0}) (turned_as p (λ v s. s) three (λ v. refl)) (λ v. tt {0})) chosen (λ v u t s. refl) (omega arith) (omega arith))
-                    (λ v z t s. ap (λ w. selected p W at w ls s) (ap (fit p.model promoted) (number_as p W n a xs e (type_of e) test_type v z t) ∙ sym (y.is v)))
-                    (omega arith) (omega arith);
-              }
+          -- the event is told before the arms are entered
+          module _ {t : Sym} (k : ℕ) (q : k ≡ length ls) (ev : Turned p (k + W.scale.test at) 0 c t (λ v. telling W (Branch at (way_for (typed p.model promoted v c.net ys) ls)))) where
+            abbrev value : (ℕ → Bool) → ℤ
+            value v = typed p.model promoted v b.net ys
+
+            pub entries_room : (j : ℕ) → j ≡ length ls → length t.net + 2 * j < 2 ^ 28
+            entries_room j u = omega (arith, (longer_by x.follows.added).1, (longer_by y.turned.added).1, (longer_by z.turned.added).1, (longer_by ev.added).1, r.room, q, u)
+
+            pub cases_then : AreIn t.net cs
+            cases_then = all_added ev.added cs z.inside
+
+            pub cases_still : (v : ℕ → Bool) → map (holds v t.net) cs ≡ map (is_case (value v)) ls
+            cases_still v = all_held ev.added v cs z.inside ∙ z.are v
+
+            pub chosen_chooses : {d : Sym} {bits : List Bit} (j : ℕ) → j ≡ length ls → Entered p (2 * j) ls value t d bits → Chooses p W n at e ls s d bits
+            chosen_chooses {d} {bits} j u w =
+                let two = turned_then p (conversion_cost p.model (type_of e) promoted + cases_cost p.model promoted ls) 0 y.turned z.turned (omega arith) (omega arith) in
+                let event = told_as p W (λ v. Branch at (way_for (value v) ls)) ev (λ v. ap (λ i. Branch at (way_for i ls)) (typed_added z.turned.added p.model promoted v ys y.bits_in)) in
+                let entered : Follows W.duties p (2 * j) 0 t d (λ v i. map (holds v d.net) bits ≡ done_from i ls) (λ v s. Go (arm_for (value v) ls) s) = net_follows p W.duties (λ v. arm_for (value v) ls) w.turned (λ v. w.are v) in
+                let chosen : Follows W.duties p (W.scale.test at + 3 * length ls) 0 c d (λ v i. map (holds v d.net) bits ≡ done_from i ls) (λ v. selected p W at (value v) ls) =
+                follows_then p W.duties (W.scale.test at + 3 * length ls) 0 (λ v u s. Go (arm_for (value v) ls) s) (told_follows p W (λ v. Branch at (way_for (value v) ls)) event) entered (λ v u i s. refl) (omega (arith, q, u)) (omega arith) in
+                record {
+                  many = done_many (λ k. false) w;
+                  inside = w.inside;
+                  follows = follows_then p W.duties (weight_of_choice p W n at e ls) (bits_of p W n e) (λ v z. selected p W at (fit p.model promoted z) ls) x.follows
+                      (follows_then p W.duties (W.scale.test at + choice_cost p W n (type_of e) ls) 0 (λ v u. selected p W at (value v) ls)
+                      (net_follows p W.duties {S = λ v u. Unit {0}} (λ v. tt {0}) two (λ v. tt {0})) chosen (λ v u t s. refl) (omega arith) (omega arith))
+                      (λ v z t s. ap (λ w. selected p W at w ls s) (ap (fit p.model promoted) (number_as p W n a xs e (type_of e) test_type v z t) ∙ sym (y.is v)))
+                      (omega arith) (omega arith);
+                }
 
   module _ (gives : Option IntType) where
     -- ---- one arm
@@ -253,16 +266,16 @@ module _ (p : Program) (W : Mode) (n : ℕ) where
       body = stmts_view (out-Arm a).body
 
       weight_more : weight_of_block p W n gives (switch_view (take (k + 1) arms)) ≡ weight_of_block p W n gives (switch_view (take k arms)) + weight_of_block p W n gives body
-      weight_more = arms_amount p (λ w b. w) (weight_in p W.placed n) (placed_weight p W.placed) gives arms k a h e
+      weight_more = arms_amount p (nodes p W.scale n) gives arms k a h e
 
       bits_more : bits_of_block p W n gives (switch_view (take (k + 1) arms)) ≡ bits_of_block p W n gives (switch_view (take k arms)) + bits_of_block p W n gives body
-      bits_more = arms_amount p (λ w b. b) (bits_in p n) nowhere gives arms k a h e
+      bits_more = arms_amount p (cost.bits p W.scale n) gives arms k a h e
 
       weight_within : weight_of_block p W n gives (switch_view (take (k + 1) arms)) ≤ weight_of_block p W n gives (switch_view arms)
-      weight_within = arms_within p (λ w b. w) (weight_in p W.placed n) (placed_weight p W.placed) gives arms (k + 1)
+      weight_within = arms_within p (nodes p W.scale n) gives arms (k + 1)
 
       bits_within : bits_of_block p W n gives (switch_view (take (k + 1) arms)) ≤ bits_of_block p W n gives (switch_view arms)
-      bits_within = arms_within p (λ w b. b) (bits_in p n) nowhere gives arms (k + 1)
+      bits_within = arms_within p (cost.bits p W.scale n) gives arms (k + 1)
 
       count : length (take k arms) ≡ k
       count = length-take-le k arms (omega (arith, h))
@@ -315,7 +328,7 @@ module _ (p : Program) (W : Mode) (n : ℕ) where
       switch_pays : choice_cost p W n (type_of e) labels + (arm_glue * length arms + 1) ≤ form_glue + chooses p.model (type_of e) labels
       switch_pays = omega (arith, conversion_costs p.model (type_of e) (promote_of (type_of e)), labels_cost p.model (promote_of (type_of e)) labels, labels_many arms, switch_is.2)
 
-      pub switch_chooses : ChoiceReady p W n s e labels
+      pub switch_chooses : ChoiceReady p W n at s e labels
       switch_chooses = record {
         fits = r.fits;
         types = only_one (is_typed p) e (form_types p gives at (Switch e (switch_view arms)) r.types).1;

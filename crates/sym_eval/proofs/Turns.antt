@@ -63,16 +63,16 @@ module _ (p : Program) (W : Mode) (n : ℕ) (at : Spot) where
   tested_then true K s = refl
   tested_then false K s = refl
 
-  control_then : (e : Exp) (K : Turn) (s : JudgedState)
-      → bind (control p (judged p W) (calls p W n) at e (λ may s. Go Next s) (λ may s. Go Broken s) true s) (go_on (K true)) ≡ control p (judged p W) (calls p W n) at e K (λ may s. Go Broken s) true s
-  control_then e K s =
+  pub control_then : (may : Bool) (e : Exp) (K : Turn) (s : JudgedState)
+      → bind (control p (judged p W) (calls p W n) at e (λ may s. Go Next s) (λ may s. Go Broken s) true s) (go_on (K may)) ≡ control p (judged p W) (calls p W n) at e K (λ may s. Go Broken s) may s
+  control_then may e K s =
       let r : Res Stopped JudgedState ℤ = full p (judged p W) (calls p W n) at Used e s in
-      sym (after_both p r (λ z s. bind (tell p W (Branch at (Truth (not (is_zero z)))) s) (λ u. cond {A = JudgedState → Res Stopped JudgedState Flow} (not (is_zero z)) (λ s. Go Next s) (λ s. Go Broken s))) (go_on (K true)))
-      ∙ (λ i. bind r (λ z s. bind (tell p W (Branch at (Truth (not (is_zero z)))) s) (λ u s. tested_then (not (is_zero z)) (K true) s i)))
+      sym (after_both p r (λ z s. bind (tell p W (Branch at (Truth (not (is_zero z)))) s) (λ u. cond {A = JudgedState → Res Stopped JudgedState Flow} (not (is_zero z)) (λ s. Go Next s) (λ s. Go Broken s))) (go_on (K may)))
+      ∙ (λ i. bind r (λ z s. bind (tell p W (Branch at (Truth (not (is_zero z)))) s) (λ u s. tested_then (not (is_zero z)) (K may) s i)))
 
-  going_then : (o : Option Exp) (K : Turn) (s : JudgedState) → bind (going p (judged p W) (calls p W n) at o (λ may s. Go Next s) true s) (go_on (K true)) ≡ going p (judged p W) (calls p W n) at o K true s
-  going_then None K s = refl
-  going_then (Some e) K s = control_then e K s
+  pub going_then : (may : Bool) (o : Option Exp) (K : Turn) (s : JudgedState) → bind (going p (judged p W) (calls p W n) at o (λ may s. Go Next s) true s) (go_on (K may)) ≡ going p (judged p W) (calls p W n) at o K may s
+  going_then may None K s = refl
+  going_then may (Some e) K s = control_then may e K s
 
   on_then : (f : Flow) (K : JudgedState → Res Stopped JudgedState Flow) (s : JudgedState) → bind (go_on (λ s. Go Next s) f s) (go_on K) ≡ go_on K f s
   on_then Next K s = refl
@@ -112,13 +112,13 @@ module _ (p : Program) (W : Mode) (n : ℕ) (gives : Option IntType) where
       (λ v s. refl) (omega arith) (omega arith)
 
   -- ---- one turn
-  pub while_tests : {a : Sym} {e : Exp} {x : Stm} → TurnReady p W n gives a (Some (WhileLoop e x)) → TestReady p W n a e
+  pub while_tests : {at : Spot} {a : Sym} {e : Exp} {x : Stm} → TurnReady p W n gives at a (Some (WhileLoop e x)) → TestReady p W n at a e
   while_tests {e = e} {x = x} h =
       let t = both (is_test p (Some e)) (every_statement (statement_fits p gives) x) h.types in
       let q = both (has_value e) (is_typed p e) t.0 in
       record { fits = h.fits; types = q.1; value = q.0; room = omega (arith, h.room) }
 
-  pub while_goes_on : {a b : Sym} {e : Exp} {x : Stm} (at : Spot) → TurnReady p W n gives a (Some (WhileLoop e x)) → TestDoes p W n at e a b → BodyReady p W n gives b x
+  pub while_goes_on : {a b : Sym} {e : Exp} {x : Stm} (at : Spot) → TurnReady p W n gives at a (Some (WhileLoop e x)) → TestDoes p W n at e a b → BodyReady p W n gives b x
   while_goes_on {e = e} {x = x} at h y =
       let r = y gives in
       record { fits = r.fits; result = r.result ∙ h.result; types = (both (is_test p (Some e)) (every_statement (statement_fits p gives) x) h.types).1; room = omega (arith, h.room, (longer_by r.added).1) }
@@ -126,13 +126,13 @@ module _ (p : Program) (W : Mode) (n : ℕ) (gives : Option IntType) where
   pub while_does : {a b c : Sym} (at : Spot) (e : Exp) (x : Stm) → TestDoes p W n at e a b → BodyDoes p W n gives x b c → TurnDoes p W n gives at (Some (WhileLoop e x)) a c
   while_does at e x y z =
       let l : Option Loop = Some (WhileLoop e x) in
-      runs_as p W.duties gives (runs_then p W.duties gives (turn_glue + weight_of_turn p W n gives l) (bits_of_turn p W n gives l) (y gives) z (omega arith) (omega arith))
-      (λ v s. control_then p W n at e (λ may. body_of p W may (exec p (judged p W) (calls p W n) gives x)) s) (omega arith) (omega arith)
+      runs_as p W.duties gives (runs_then p W.duties gives (turn_glue + weight_of_turn p W n gives at l) (bits_of_turn p W n gives at l) (y gives) z (omega arith) (omega arith))
+      (λ v s. control_then p W n at true e (λ may. body_of p W may (exec p (judged p W) (calls p W n) gives x)) s) (omega arith) (omega arith)
 
-  pub do_starts : {a : Sym} {e : Exp} {x : Stm} → TurnReady p W n gives a (Some (DoLoop x e)) → BodyReady p W n gives a x
+  pub do_starts : {at : Spot} {a : Sym} {e : Exp} {x : Stm} → TurnReady p W n gives at a (Some (DoLoop x e)) → BodyReady p W n gives a x
   do_starts {e = e} {x = x} h = record { fits = h.fits; result = h.result; types = (both (is_test p (Some e)) (every_statement (statement_fits p gives) x) h.types).1; room = omega (arith, h.room) }
 
-  pub do_tests : {a b : Sym} {e : Exp} {x : Stm} → TurnReady p W n gives a (Some (DoLoop x e)) → BodyDoes p W n gives x a b → TestReady p W n b e
+  pub do_tests : {at : Spot} {a b : Sym} {e : Exp} {x : Stm} → TurnReady p W n gives at a (Some (DoLoop x e)) → BodyDoes p W n gives x a b → TestReady p W n at b e
   do_tests {e = e} {x = x} h y =
       let t = both (is_test p (Some e)) (every_statement (statement_fits p gives) x) h.types in
       let q = both (has_value e) (is_typed p e) t.0 in
@@ -141,18 +141,18 @@ module _ (p : Program) (W : Mode) (n : ℕ) (gives : Option IntType) where
   pub do_does : {a b c : Sym} (at : Spot) (e : Exp) (x : Stm) → BodyDoes p W n gives x a b → TestDoes p W n at e b c → TurnDoes p W n gives at (Some (DoLoop x e)) a c
   do_does at e x y z =
       let l : Option Loop = Some (DoLoop x e) in
-      runs_as p W.duties gives (runs_then p W.duties gives (turn_glue + weight_of_turn p W n gives l) (bits_of_turn p W n gives l) y (z gives) (omega arith) (omega arith)) (λ v s. refl) (omega arith) (omega arith)
+      runs_as p W.duties gives (runs_then p W.duties gives (turn_glue + weight_of_turn p W n gives at l) (bits_of_turn p W n gives at l) y (z gives) (omega arith) (omega arith)) (λ v s. refl) (omega arith) (omega arith)
 
-  pub for_tests : {a : Sym} {e s : Option Exp} {x : Stm} → TurnReady p W n gives a (Some (ForLoop e s x)) → TestIfReady p W n a e
+  pub for_tests : {at : Spot} {a : Sym} {e s : Option Exp} {x : Stm} → TurnReady p W n gives at a (Some (ForLoop e s x)) → TestIfReady p W n at a e
   for_tests {e = e} {s = s} {x = x} h = record { fits = h.fits; types = (both (is_test p e) (is_typed_if p s && every_statement (statement_fits p gives) x) h.types).0; room = omega (arith, h.room) }
 
-  pub for_goes_on : {a b : Sym} {e s : Option Exp} {x : Stm} (at : Spot) → TurnReady p W n gives a (Some (ForLoop e s x)) → TestIfDoes p W n at e a b → BodyReady p W n gives b x
+  pub for_goes_on : {a b : Sym} {e s : Option Exp} {x : Stm} (at : Spot) → TurnReady p W n gives at a (Some (ForLoop e s x)) → TestIfDoes p W n at e a b → BodyReady p W n gives b x
   for_goes_on {e = e} {s = s} {x = x} at h y =
       let r = y gives in
       let t = both (is_test p e) (is_typed_if p s && every_statement (statement_fits p gives) x) h.types in
       record { fits = r.fits; result = r.result ∙ h.result; types = (both (is_typed_if p s) (every_statement (statement_fits p gives) x) t.1).1; room = omega (arith, h.room, (longer_by r.added).1) }
 
-  pub for_steps : {a b c : Sym} {e s : Option Exp} {x : Stm} (at : Spot) → TurnReady p W n gives a (Some (ForLoop e s x)) → TestIfDoes p W n at e a b → BodyDoes p W n gives x b c → StepReady p W n c s
+  pub for_steps : {a b c : Sym} {e s : Option Exp} {x : Stm} (at : Spot) → TurnReady p W n gives at a (Some (ForLoop e s x)) → TestIfDoes p W n at e a b → BodyDoes p W n gives x b c → StepReady p W n c s
   for_steps {e = e} {s = s} {x = x} at h y z =
       let r = y gives in
       let t = both (is_test p e) (is_typed_if p s && every_statement (statement_fits p gives) x) h.types in
@@ -164,11 +164,11 @@ module _ (p : Program) (W : Mode) (n : ℕ) (gives : Option IntType) where
       let body : Turn = λ may. body_of p W may (exec p (judged p W) (calls p W n) gives x) in
       let step : Turn = full_if p (judged p W) (calls p W n) at s (λ may s. Go Next s) in
       let rest = runs_then p W.duties gives (1 + weight_of p W n gives x + weight_of_step p W n s) (bits_of p W n gives x + bits_of_step p W n s) z (w gives) (omega arith) (omega arith) in
-      runs_as p W.duties gives (runs_then p W.duties gives (turn_glue + weight_of_turn p W n gives l) (bits_of_turn p W n gives l) (y gives) rest (omega arith) (omega arith))
-      (λ v t. going_then p W n at e (λ may t. bind (body may t) (go_on (step may))) t) (omega arith) (omega arith)
+      runs_as p W.duties gives (runs_then p W.duties gives (turn_glue + weight_of_turn p W n gives at l) (bits_of_turn p W n gives at l) (y gives) rest (omega arith) (omega arith))
+      (λ v t. going_then p W n at true e (λ may t. bind (body may t) (go_on (step may))) t) (omega arith) (omega arith)
 
   -- where there is no loop
-  pub no_turn : {a : Sym} (at : Spot) → TurnReady p W n gives a None → TurnDoes p W n gives at None a a
+  pub no_turn : {a : Sym} (at : Spot) → TurnReady p W n gives at a None → TurnDoes p W n gives at None a a
   no_turn {a} at h = runs_as p W.duties gives (skip_runs p W.duties gives a h.fits) (λ v s. refl) (omega arith) (omega arith)
 
   -- ---- a `for`
@@ -268,6 +268,10 @@ module _ (p : Program) (I : List Placed) (n : ℕ) (gives : Option IntType) wher
   abbrev W : Mode
   W = obliging p I
 
+  -- the one turn costs no more than the loop
+  pub turn_within : (at : Spot) (l : Option Loop) → weight_of_turn p W n gives at l ≤ weight_of_loop p W n gives at l
+  turn_within at l = omega arith
+
   pub head_room : {a b : Sym} (at : Spot) (l : Option Loop) → LoopReady p W n gives at a l → Became p 0 a b (λ v. fresh_broken) → length b.net + (2 * placed_weight p I true at + 5 * changed_bits p l) < 2 ^ 27
   head_room at l h x = omega (arith, h.room, (longer_by x.added).1)
 
@@ -275,7 +279,7 @@ module _ (p : Program) (I : List Placed) (n : ℕ) (gives : Option IntType) wher
   head_longer : {b c : Sym} (at : Spot) (l : Option Loop) → HeadDoes p I at l b c → length c.net ≤ length b.net + (2 * placed_weight p I true at + 5 * changed_bits p l)
   head_longer at l h = omega (arith, (longer_by h.entry.added).1, (longer_by h.draws.added).1, (longer_by h.assumed.added).1)
 
-  pub turn_starts : {a b c : Sym} (at : Spot) (l : Option Loop) → LoopReady p W n gives at a l → Became p 0 a b (λ v. fresh_broken) → HeadDoes p I at l b c → TurnReady p W n gives c l
+  pub turn_starts : {a b c : Sym} (at : Spot) (l : Option Loop) → LoopReady p W n gives at a l → Became p 0 a b (λ v. fresh_broken) → HeadDoes p I at l b c → TurnReady p W n gives at c l
   turn_starts at l h x y = record {
     fits = y.assumed.fits;
     result = y.assumed.result ∙ y.draws.result ∙ y.entry.result ∙ x.result ∙ h.result;

@@ -26,19 +26,20 @@ use Rattle.circuits.specs.declared.net.Bit.{Bit}
 use Rattle.circuits.specs.Net.{IsNet, count_ands, count_inputs}
 use Rattle.circuits.proofs.Nets.{count_ands-append, inputs-append}
 use Rattle.sym_eval.specs.Doing.{weight_of_form, bits_of_form, FormReady, FormDoes}
-use Rattle.sym_eval.specs.Whole.{IsLight, IsWhole, AreMade}
+use Rattle.sym_eval.specs.Whole.{weight_of_main, bits_of_main, IsLight, IsWhole, IsLightEnough, AreMade}
 use Rattle.sym_duties.specs.Answers.{names_of}
 use Rattle.sym_duties.specs.Promise.{StandsFor, Tells}
 use Rattle.sym_state.specs.Standing.{draws_at}
 use Rattle.sym_flow.specs.Calling.{Enters}
 use Rattle.sym_state.specs.declared.state.DrawSite.{DrawSite}
 use Rattle.sym_state.specs.declared.state.Sym.{Sym}
-use Rattle.sym_weight.specs.Sum.{function_of}
-use Rattle.sym_weight.specs.Weight.{Weight, Bits, weighing, drawing, weight_in, bits_in, placed_weight, nowhere, most_active}
+use Rattle.sym_scale.specs.Cost.{function_of, nodes, bits}
+use Rattle.sym_scale.specs.Obliged.{CostsItsWeight}
+use Rattle.sym_weight.specs.Weight.{Weight, Bits, most_active}
 use Rattle.sym_weight.proofs.Light.{bits_are_light}
 use Rattle.sym_whole.specs.Deciding as whole
 use Rattle.sym_whole.specs.Deciding.{IsStart, Decides}
-use Rattle.sym_whole.specs.Starting.{IsFirst}
+use Rattle.sym_whole.specs.Starting.{at_start, IsFirst}
 use Rattle.sym_whole.proofs.Wholes.{decides, larger}
 
 -- with fresh bits for main's ways out, each run still sets out
@@ -56,56 +57,60 @@ entered_start x e = record {
   completed = λ v. ap (λ s. s.completed) (e.is v) ∙ x.completed v;
 }
 
-module _ (p : Program) (I : List Placed) (r : _) (ps : List ℕ) (at : Spot) (f : Form) (main : slice_get p.functions p.main ≡ Some (record { result = r; params = ps; body = Stmt at f })) where
-  abbrev W : Mode
-  W = obliging p I
+module _ (p : Program) (W : Mode) (n : ℕ) (r : _) (ps : List ℕ) (at : Spot) (f : Form) (main : slice_get p.functions p.main ≡ Some (record { result = r; params = ps; body = Stmt at f })) where
+  weight_is : weight_of_main p W n ≡ 64 + (W.scale.body + weight_of_form p W n r at f)
+  weight_is = ap (function_of p (nodes p W.scale n)) main
 
-  abbrev n : ℕ
-  n = length p.functions
+  bits_are : bits_of_main p W n ≡ 0 + (0 + bits_of_form p W n r at f)
+  bits_are = ap (function_of p (bits p W.scale n)) main
 
-  weight_is : Weight p I ≡ 64 + weight_of_form p W n r at f
-  weight_is = ap (function_of p (weighing (weight_in p I n)) (placed_weight p I)) main
-
-  bits_are : Bits p ≡ 0 + bits_of_form p W n r at f
-  bits_are = ap (function_of p (drawing (bits_in p n)) nowhere) main
-
-  module _ {count : ℕ} {a b : Sym} (first : IsFirst p count a) (e : Enters p (type_or_int r) a b) where
-    pub main_ready : IsProgram p → IsLight p I → FormReady p W n r at b f
+  module _ {count segments : ℕ} {a b : Sym} (first : IsFirst p count segments a) (e : Enters p (type_or_int r) a b) where
+    pub main_ready : IsProgram p → IsLight p W n → FormReady p W n r at b f
     main_ready h light = record {
       fits = e.fits;
       result = e.result;
       types = at_every (function_fits p) p.functions p.main (record { result = r; params = ps; body = Stmt at f }) h.types main;
-      room = omega (arith, light, bits_are_light p I (most_active p) p.main, weight_is, bits_are, first.one_node, ap length e.added.is, length-append a.net e.added.more, e.added.few);
+      room = omega (arith, light, weight_is, bits_are, first.one_node, ap length e.added.is, length-append a.net e.added.more, e.added.few);
     }
 
-    pub main_whole : {c : Sym} → count ≡ length (Duties p I) → count < 2 ^ 32 → IsNet c.net → FormDoes p W n r at f b c → IsWhole p I c
-    main_whole {c} many small fine x =
-        let ds = Duties p I in
+    pub main_whole : {c : Sym} → count ≡ length W.duties → IsNet c.net → FormDoes p W n r at f b c → IsWhole p W n (at_start segments) c
+    main_whole {c} many fine x =
+        let ds = W.duties in
         let sets_out = entered_start (first.start ds (sym many)) e in
         let size = larger p ds r x in
         record {
           fits = x.fits;
           fine = fine;
-          numbered = omega (arith, many, small);
-          decides = subst (λ run. Decides ds p (first_cells p) [] c run) (sym (ap (λ f. run_if p (judged p W) (suc n) f true) main)) (decides p ds r b c (first_cells p) [] _ x sets_out fine);
+          decides = subst (λ run. Decides ds p (first_cells p) (at_start segments) c run) (sym (ap (λ f. run_if p (judged p W) (suc n) f true) main)) (decides p ds r b c (first_cells p) (at_start segments) _ x sets_out fine);
           gates = omega (arith, size.gates, weight_is, first.no_gates, ap count_ands e.added.is, count_ands-append a.net e.added.more, e.added.gates);
           feeds = omega (arith, size.feeds, bits_are, first.no_inputs, ap count_inputs e.added.is, inputs-append a.net e.added.more, e.added.feeds);
         }
 
+-- ---- obligations, whose parts cost what they weigh
+module _ (p : Program) (I : List Placed) (cost : CostsItsWeight p I (suc (length p.functions))) where
+  pub main_costs : weight_of_main p (obliging p I) (length p.functions) ≡ Weight p I
+  main_costs = omega (arith, cost.nodes 0 p.main)
+
+  pub main_draws : bits_of_main p (obliging p I) (length p.functions) ≡ Bits p
+  main_draws = cost.bits p.main
+
+  pub light_enough : IsLightEnough p I → IsLight p (obliging p I) (length p.functions)
+  light_enough light = omega (arith, light, main_costs, main_draws, bits_are_light p I (most_active p) p.main)
+
 -- ---- what is told of the whole; law: in the mode of obligations the judged run is the havoc run
-pub are_made : (p : Program) (I : List Placed) (s : Sym) (list : List Duty) (failing : List Bit) (sites : List DrawSite) → ((w : List ℤ) → IsHavocRun p I (suc (length p.functions)) w []) → IsWhole p I s → IsLight p I → list ≡ Duties p I
+pub are_made : (p : Program) (I : List Placed) (s : Sym) (list : List Duty) (failing : List Bit) (sites : List DrawSite) → ((w : List ℤ) → IsHavocRun p I (suc (length p.functions)) w []) → CostsItsWeight p I (suc (length p.functions)) → IsWhole p (obliging p I) (length p.functions) [] s → IsLightEnough p I → length (Duties p I) < 2 ^ 32 → list ≡ Duties p I
     → failing ≡ s.failing.items → sites ≡ s.sites.items → All (StandsFor p) s.sites.items → AreMade p I (record { list = list; net = s.net; failing = failing; sites = sites })
-are_made p I s list failing sites law h light a b c stand = rw (a, b, c) (record {
+are_made p I s list failing sites law cost h light numbered a b c stand = rw (a, b, c) (record {
   list = refl;
-  numbered = h.numbered;
+  numbered = numbered;
   many = h.decides.many;
   failing_in = h.fits.failing;
   sites_in = h.fits.sites;
   stand = stand;
   each = λ v. told v (values_of (draws_at p v s.net s.sites.items)) (h.decides.each v);
   all = λ w. let t = h.decides.all w in (t.0, told t.0 w t.1);
-  gates = h.gates;
-  feeds = h.feeds;
+  gates = omega (arith, h.gates, main_costs p I cost);
+  feeds = omega (arith, h.feeds, main_draws p I cost);
   drawn = bits_are_light p I (most_active p) p.main;
   light = light;
 })

@@ -5,6 +5,7 @@ use Rattle.c_core.specs.Tree.{Program, Exps, Function}
 use Rattle.c_core.specs.Parts.{exps_in, every_argument}
 use Rattle.c_core.specs.Typing.{exp_fits, function_fits, has_value}
 use Rattle.c_core.specs.declared.number.IntType.{IntType}
+use Rattle.c_core.specs.declared.number.Spot.{Spot}
 use Rattle.c_meaning.specs.Acts.{Go, Next, bind, scoped, given}
 use Rattle.c_meaning.specs.Eval.{evals}
 use Rattle.c_meaning.specs.Exec.{with_params, run_in}
@@ -25,9 +26,8 @@ use Rattle.sym_values.specs.Valuing.{where_of, IsDutyAt}
 use Rattle.sym_values.specs.Storing.{Ends, end_of}
 use Rattle.sym_flow.specs.Calling.{is_value}
 use Rattle.sym_flow.specs.Leaving.{Runs}
-use Rattle.sym_weight.specs.Sum.{arguments, function_body}
+use Rattle.sym_scale.specs.Cost.{arguments, function_body, nodes_in, bits_in, nodes, bits}
 use Rattle.sym_weight.specs.Table.{call_weight, params_of, stored}
-use Rattle.sym_weight.specs.Weight.{weighing, drawing, weight_in, bits_in, placed_weight, nowhere}
 use Rattle.sym_eval.specs.declared.parameters.Argument.{Argument}
 
 -- ---- arguments and parameters
@@ -66,10 +66,10 @@ module _ (p : Program) where
 module _ (p : Program) (W : Mode) (n : ℕ) where
   -- ---- arguments
   abbrev pub weight_of_all : Exps → ℕ
-  weight_of_all es = arguments p (weighing (weight_in p W.placed n)) es
+  weight_of_all es = arguments p (nodes p W.scale n) es
 
   abbrev pub bits_of_all : Exps → ℕ
-  bits_of_all es = arguments p (drawing (bits_in p n)) es
+  bits_of_all es = arguments p (bits p W.scale n) es
 
   module _ (at : Around) where
     -- arguments can be evaluated from a state
@@ -89,42 +89,43 @@ module _ (p : Program) (W : Mode) (n : ℕ) where
 
   -- ---- the function of a number
   abbrev pub weight_of_call : ℕ → List Argument → ℕ
-  weight_of_call f xs = call_weight + (set_cost p (params_of (slice_get p.functions f)) xs + weight_in p W.placed n f)
+  weight_of_call f xs = call_weight + nodes_in p W.scale n (set_cost p (params_of (slice_get p.functions f)) xs) f
 
   abbrev pub bits_of_call : ℕ → ℕ
-  bits_of_call f = bits_in p n f
+  bits_of_call f = bits_in p W.scale n f
 
-  -- it can be called from a state, with a result of this type; a void one's value isn't needed
-  pub record CallReady (f : ℕ) (needed : Bool) (ty : Option IntType) (s : Sym) (xs : List Argument) : Type 0 where
+  -- it can be called from a state, by a call that ends at a place, with a result of this type; a void one's value isn't
+  -- needed
+  pub record CallReady (close : Spot) (f : ℕ) (needed : Bool) (ty : Option IntType) (s : Sym) (xs : List Argument) : Type 0 where
     pub fits : IsState p s
     pub arguments : AreArguments p s.net xs
     pub result : (fn : Function) → slice_get p.functions f ≡ Some fn → fn.result ≡ ty
     pub void : ty ≡ None → needed ≡ false
-    pub room : length s.net + (weight_of_call f xs + bits_of_call f) < 2 ^ 27
+    pub room : length s.net + (W.scale.returns close + weight_of_call f xs + bits_of_call f) < 2 ^ 27
 
   -- it was called with these arguments; the bits are the value that it gave, where that is needed
-  pub record Called (f : ℕ) (needed : Bool) (ty : Option IntType) (xs : List Argument) (old new : Sym) (bits : List Bit) : Type 0 where
+  pub record Called (close : Spot) (f : ℕ) (needed : Bool) (ty : Option IntType) (xs : List Argument) (old new : Sym) (bits : List Bit) : Type 0 where
     pub bits_in : AreOf p.model ty new.net bits
-    pub follows : (site : Site) → site.needed ≡ needed → Follows W.duties p (weight_of_call f xs) (bits_of_call f) old new (λ v z. needed ≡ true → IsNumber p.model ty new.net bits v z)
+    pub follows : (site : Site) → site.close ≡ close → site.needed ≡ needed → Follows W.duties p (W.scale.returns close + weight_of_call f xs) (bits_of_call f) old new (λ v z. needed ≡ true → IsNumber p.model ty new.net bits v z)
         (λ v. calls_in p (judged p W) n site f (values_at p v old.net xs))
 
   -- ---- a function whose body has calls at most n deep
   abbrev pub weight_of_run : Function → List Argument → ℕ
-  weight_of_run fn xs = set_cost p fn.params xs + function_body p (weighing (weight_in p W.placed n)) (placed_weight p W.placed) fn.result fn.body
+  weight_of_run fn xs = set_cost p fn.params xs + function_body p (nodes p W.scale n) fn.result fn.body
 
   abbrev pub bits_of_run : Function → ℕ
-  bits_of_run fn = function_body p (drawing (bits_in p n)) nowhere fn.result fn.body
+  bits_of_run fn = function_body p (bits p W.scale n) fn.result fn.body
 
   -- it can be run from a state, with these arguments
-  pub record RunReady (needed : Bool) (fn : Function) (s : Sym) (xs : List Argument) : Type 0 where
+  pub record RunReady (close : Spot) (needed : Bool) (fn : Function) (s : Sym) (xs : List Argument) : Type 0 where
     pub fits : IsState p s
     pub arguments : AreArguments p s.net xs
     pub types : IsTrue (function_fits p fn)
     pub void : fn.result ≡ None → needed ≡ false
-    pub room : length s.net + (weight_of_run fn xs + bits_of_run fn) < 2 ^ 27
+    pub room : length s.net + (W.scale.returns close + weight_of_run fn xs + bits_of_run fn) < 2 ^ 27
 
   -- it was run: its parameters' cells, its body in a scope of its own, and the value that it gave
-  pub record HasRun (needed : Bool) (fn : Function) (xs : List Argument) (old new : Sym) (bits : List Bit) : Type 0 where
+  pub record HasRun (close : Spot) (needed : Bool) (fn : Function) (xs : List Argument) (old new : Sym) (bits : List Bit) : Type 0 where
     pub bits_in : AreTyped p.model (type_or_int fn.result) new.net bits
-    pub follows : (site : Site) → site.needed ≡ needed → Follows W.duties p (weight_of_run fn xs) (bits_of_run fn) old new (λ v. is_value needed (typed p.model (type_or_int fn.result) v new.net bits))
+    pub follows : (site : Site) → site.close ≡ close → site.needed ≡ needed → Follows W.duties p (W.scale.returns close + weight_of_run fn xs) (bits_of_run fn) old new (λ v. is_value needed (typed p.model (type_or_int fn.result) v new.net bits))
         (λ v s. bind (scoped Stopped JudgedState cells_judged with_cells_judged (with_params p (judged p W) fn.params (values_at p v old.net xs) (run_in p (judged p W) (suc n) fn) true) s) (λ flow. returned p W site (given flow)))

@@ -15,8 +15,8 @@ use Rattle.sym_state.specs.declared.state.Sym.{Sym}
 use Rattle.sym_state.specs.Standing.{Stand, IsState}
 use Rattle.sym_state.specs.Following.{Follows, AreOf}
 use Rattle.sym_flow.specs.Leaving.{Runs}
-use Rattle.sym_weight.specs.Sum as sum
-use Rattle.sym_weight.specs.Weight.{weighing, drawing, weight_in, bits_in}
+use Rattle.sym_scale.specs.Cost as cost
+use Rattle.sym_scale.specs.Cost.{nodes, bits}
 use Rattle.sym_exprs.specs.Evaluating.{IsWanted, weight_of, bits_of}
 use Rattle.sym_eval.specs.Doing.{calls, weight_of_control, bits_of_control}
 
@@ -53,37 +53,37 @@ module _ (p : Program) (W : Mode) (n : ℕ) where
     pub follows : Follows W.duties p (weight_of p W n e) (bits_of p W n e) old new (IsWanted want p.model (type_of e) new.net bits) (λ v. full p (judged p W) (calls p W n) at want e)
 
   -- a loop can be tested from a state
-  pub record TestReady (s : Sym) (e : Exp) : Type 0 where
+  pub record TestReady (at : Spot) (s : Sym) (e : Exp) : Type 0 where
     pub fits : IsState p s
     pub types : IsTrue (is_typed p e)
     pub value : IsTrue (has_value e)
-    pub room : length s.net + (test_glue + (weight_of_control p W n e + bits_of_control p W n e)) < 2 ^ 27
+    pub room : length s.net + (test_glue + (weight_of_control p W n at e + bits_of_control p W n at e)) < 2 ^ 27
 
   -- it goes on, or is left, in a function of any result
   abbrev pub TestDoes : Spot → Exp → Sym → Sym → Type 0
-  TestDoes at e old new = (gives : Option IntType) → Runs W.duties p gives (test_glue + weight_of_control p W n e) (bits_of_control p W n e) old new
+  TestDoes at e old new = (gives : Option IntType) → Runs W.duties p gives (test_glue + weight_of_control p W n at e) (bits_of_control p W n at e) old new
       (λ v. control p (judged p W) (calls p W n) at e (λ may s. Go Next s) (λ may s. Go Broken s) true)
 
   -- ---- the parts of a `for`, which may be missing
-  abbrev pub weight_of_test : Option Exp → ℕ
-  weight_of_test e = sum.control_if p (weighing (weight_in p W.placed n)) e
+  abbrev pub weight_of_test : Spot → Option Exp → ℕ
+  weight_of_test at e = cost.control_if p (nodes p W.scale n) at e
 
-  abbrev pub bits_of_test : Option Exp → ℕ
-  bits_of_test e = sum.control_if p (drawing (bits_in p n)) e
+  abbrev pub bits_of_test : Spot → Option Exp → ℕ
+  bits_of_test at e = cost.control_if p (bits p W.scale n) at e
 
   abbrev pub weight_of_step : Option Exp → ℕ
-  weight_of_step e = sum.expression_if p (weighing (weight_in p W.placed n)) e
+  weight_of_step e = cost.expression_if p (nodes p W.scale n) e
 
   abbrev pub bits_of_step : Option Exp → ℕ
-  bits_of_step e = sum.expression_if p (drawing (bits_in p n)) e
+  bits_of_step e = cost.expression_if p (bits p W.scale n) e
 
-  pub record TestIfReady (s : Sym) (e : Option Exp) : Type 0 where
+  pub record TestIfReady (at : Spot) (s : Sym) (e : Option Exp) : Type 0 where
     pub fits : IsState p s
     pub types : IsTrue (is_test p e)
-    pub room : length s.net + (test_glue + (weight_of_test e + bits_of_test e)) < 2 ^ 27
+    pub room : length s.net + (test_glue + (weight_of_test at e + bits_of_test at e)) < 2 ^ 27
 
   abbrev pub TestIfDoes : Spot → Option Exp → Sym → Sym → Type 0
-  TestIfDoes at e old new = (gives : Option IntType) → Runs W.duties p gives (test_glue + weight_of_test e) (bits_of_test e) old new (λ v. going p (judged p W) (calls p W n) at e (λ may s. Go Next s) true)
+  TestIfDoes at e old new = (gives : Option IntType) → Runs W.duties p gives (test_glue + weight_of_test at e) (bits_of_test at e) old new (λ v. going p (judged p W) (calls p W n) at e (λ may s. Go Next s) true)
 
   -- the last part of `for (..)`
   pub record StepReady (s : Sym) (e : Option Exp) : Type 0 where

@@ -26,8 +26,8 @@ use Rattle.sym_state.specs.declared.state.Sym.{Sym}
 use Rattle.sym_state.specs.Standing.{IsState}
 use Rattle.sym_state.specs.Following.{Follows}
 use Rattle.sym_flow.specs.Leaving.{Runs}
-use Rattle.sym_weight.specs.Sum as sum
-use Rattle.sym_weight.specs.Weight.{weighing, drawing, weight_in, bits_in, placed_weight, nowhere}
+use Rattle.sym_scale.specs.Cost as cost
+use Rattle.sym_scale.specs.Cost.{nodes, bits}
 
 -- and-nodes of a form besides its weight: paid by the weight of its statement
 abbrev pub form_glue : ℕ
@@ -39,31 +39,31 @@ module _ (p : Program) (W : Mode) (n : ℕ) where
   calls = calls_in p (judged p W) n
 
   -- ---- controlling expressions
-  abbrev pub weight_of_control : Exp → ℕ
-  weight_of_control e = sum.control p (weighing (weight_in p W.placed n)) e
+  abbrev pub weight_of_control : Spot → Exp → ℕ
+  weight_of_control at e = cost.control p (nodes p W.scale n) at e
 
-  abbrev pub bits_of_control : Exp → ℕ
-  bits_of_control e = sum.control p (drawing (bits_in p n)) e
+  abbrev pub bits_of_control : Spot → Exp → ℕ
+  bits_of_control at e = cost.control p (bits p W.scale n) at e
 
   -- a controlling expression of the statement at a place can be evaluated from a state
-  pub record ControlReady (s : Sym) (e : Exp) : Type 0 where
+  pub record ControlReady (at : Spot) (s : Sym) (e : Exp) : Type 0 where
     pub fits : IsState p s
     pub types : IsTrue (is_typed p e)
     pub value : IsTrue (has_value e)
-    pub room : length s.net + (weight_of_control e + bits_of_control e) < 2 ^ 27
+    pub room : length s.net + (weight_of_control at e + bits_of_control at e) < 2 ^ 27
 
   -- its event was told, and its value is other than zero where the bit is true
   pub record Decides (at : Spot) (e : Exp) (old new : Sym) (bit : Bit) : Type 0 where
     pub bit_in : IsIn new.net bit
-    pub follows : Follows W.duties p (weight_of_control e) (bits_of_control e) old new (λ v t. t ≡ holds v new.net bit)
+    pub follows : Follows W.duties p (weight_of_control at e) (bits_of_control at e) old new (λ v t. t ≡ holds v new.net bit)
         (λ v s. bind (full p (judged p W) calls at Used e s) (λ z s. bind (tell p W (Branch at (Truth (not (is_zero z)))) s) (λ u s. Go (not (is_zero z)) s)))
 
   -- ---- declarations, in a function of any result
   abbrev pub weight_of_initials : ℕ → Exps → ℕ
-  weight_of_initials o es = sum.initials p (weighing (weight_in p W.placed n)) o es
+  weight_of_initials o es = cost.initials p (nodes p W.scale n) o es
 
   abbrev pub bits_of_initials : ℕ → Exps → ℕ
-  bits_of_initials o es = sum.initials p (drawing (bits_in p n)) o es
+  bits_of_initials o es = cost.initials p (bits p W.scale n) o es
 
   -- the values of an object's initializer can be stored from a state
   pub record InitialsReady (o : ℕ) (s : Sym) (es : Exps) : Type 0 where
@@ -77,10 +77,10 @@ module _ (p : Program) (W : Mode) (n : ℕ) where
   InitialsDo at o i es old new = Follows W.duties p (weight_of_initials o es) (bits_of_initials o es) old new (λ v u. Unit {0}) (λ v. initials p (judged p W) calls at o i es)
 
   abbrev pub weight_of_rows : ℕ → List Exps → ℕ
-  weight_of_rows o rows = sum.row_initials p (weighing (weight_in p W.placed n)) o rows
+  weight_of_rows o rows = cost.row_initials p (nodes p W.scale n) o rows
 
   abbrev pub bits_of_rows : ℕ → List Exps → ℕ
-  bits_of_rows o rows = sum.row_initials p (drawing (bits_in p n)) o rows
+  bits_of_rows o rows = cost.row_initials p (bits p W.scale n) o rows
 
   -- the rows of an object's initializer can be stored from a state
   pub record RowsReady (o : ℕ) (s : Sym) (rows : List Exps) : Type 0 where
@@ -93,10 +93,10 @@ module _ (p : Program) (W : Mode) (n : ℕ) where
   RowsDo at o rows old new = Follows W.duties p (weight_of_rows o rows) (bits_of_rows o rows) old new (λ v u. Unit {0}) (λ v. row_initials p (judged p W) calls at o 0 rows)
 
   abbrev pub weight_of_initial : ℕ → Init → ℕ
-  weight_of_initial o i = sum.initialised p (weighing (weight_in p W.placed n)) o i
+  weight_of_initial o i = cost.initialised p (nodes p W.scale n) o i
 
   abbrev pub bits_of_initial : ℕ → Init → ℕ
-  bits_of_initial o i = sum.initialised p (drawing (bits_in p n)) o i
+  bits_of_initial o i = cost.initialised p (bits p W.scale n) o i
 
   -- an object's cells can get their values from a state
   pub record InitialReady (o : ℕ) (s : Sym) (i : Init) : Type 0 where
@@ -109,10 +109,10 @@ module _ (p : Program) (W : Mode) (n : ℕ) where
   InitialDoes at spot o i old new = Follows W.duties p (weight_of_initial o i) (bits_of_initial o i) old new (λ v u. Unit {0}) (λ v. initial p (judged p W) calls at spot o i)
 
   abbrev pub weight_of_names : Names → ℕ
-  weight_of_names ns = sum.declared p (weighing (weight_in p W.placed n)) ns
+  weight_of_names ns = cost.declared p (nodes p W.scale n) ns
 
   abbrev pub bits_of_names : Names → ℕ
-  bits_of_names ns = sum.declared p (drawing (bits_in p n)) ns
+  bits_of_names ns = cost.declared p (bits p W.scale n) ns
 
   -- names can be declared from a state
   pub record NamesReady (s : Sym) (ns : Names) : Type 0 where
@@ -124,10 +124,10 @@ module _ (p : Program) (W : Mode) (n : ℕ) where
   NamesDo at ns old new = (gives : Option IntType) → Runs W.duties p gives (weight_of_names ns) (bits_of_names ns) old new (λ v. declare p (judged p W) calls at ns true)
 
   abbrev pub weight_of_first : First → ℕ
-  weight_of_first i = sum.first p (weighing (weight_in p W.placed n)) i
+  weight_of_first i = cost.first p (nodes p W.scale n) i
 
   abbrev pub bits_of_first : First → ℕ
-  bits_of_first i = sum.first p (drawing (bits_in p n)) i
+  bits_of_first i = cost.first p (bits p W.scale n) i
 
   -- the first part of `for (` can be done from a state
   pub record FirstReady (s : Sym) (i : First) : Type 0 where
@@ -142,10 +142,10 @@ module _ (p : Program) (W : Mode) (n : ℕ) where
   -- ---- statements, in a function of this result
   module _ (gives : Option IntType) where
     abbrev pub weight_of : Stm → ℕ
-    weight_of x = sum.statement p (weighing (weight_in p W.placed n)) (placed_weight p W.placed) gives x
+    weight_of x = cost.statement p (nodes p W.scale n) gives x
 
     abbrev pub bits_of : Stm → ℕ
-    bits_of x = sum.statement p (drawing (bits_in p n)) nowhere gives x
+    bits_of x = cost.statement p (bits p W.scale n) gives x
 
     -- a statement can be walked from a state
     pub record Ready (s : Sym) (x : Stm) : Type 0 where
@@ -163,10 +163,10 @@ module _ (p : Program) (W : Mode) (n : ℕ) where
       pub level : length new.cells.items ≡ length old.cells.items
 
     abbrev pub weight_of_form : Spot → Form → ℕ
-    weight_of_form at f = sum.form p (weighing (weight_in p W.placed n)) (placed_weight p W.placed) gives at f
+    weight_of_form at f = cost.form p (nodes p W.scale n) gives at f
 
     abbrev pub bits_of_form : Spot → Form → ℕ
-    bits_of_form at f = sum.form p (drawing (bits_in p n)) nowhere gives at f
+    bits_of_form at f = cost.form p (bits p W.scale n) gives at f
 
     -- a form of statement, at a place
     pub record FormReady (at : Spot) (s : Sym) (f : Form) : Type 0 where
@@ -179,10 +179,10 @@ module _ (p : Program) (W : Mode) (n : ℕ) where
     FormDoes at f old new = Runs W.duties p gives (form_glue + weight_of_form at f) (bits_of_form at f) old new (λ v. form p (judged p W) calls gives at f true)
 
     abbrev pub weight_of_else : Else → ℕ
-    weight_of_else x = sum.otherwise p (weighing (weight_in p W.placed n)) (placed_weight p W.placed) gives x
+    weight_of_else x = cost.otherwise p (nodes p W.scale n) gives x
 
     abbrev pub bits_of_else : Else → ℕ
-    bits_of_else x = sum.otherwise p (drawing (bits_in p n)) nowhere gives x
+    bits_of_else x = cost.otherwise p (bits p W.scale n) gives x
 
     -- the arm after `else`, if there is one
     pub record ElseReady (s : Sym) (x : Else) : Type 0 where
@@ -197,10 +197,10 @@ module _ (p : Program) (W : Mode) (n : ℕ) where
       pub level : length new.cells.items ≡ length old.cells.items
 
     abbrev pub weight_of_block : Stms → ℕ
-    weight_of_block b = sum.statements p (weighing (weight_in p W.placed n)) (placed_weight p W.placed) gives b
+    weight_of_block b = cost.statements p (nodes p W.scale n) gives b
 
     abbrev pub bits_of_block : Stms → ℕ
-    bits_of_block b = sum.statements p (drawing (bits_in p n)) nowhere gives b
+    bits_of_block b = cost.statements p (bits p W.scale n) gives b
 
     -- the statements of a block
     pub record BlockReady (s : Sym) (b : Stms) : Type 0 where

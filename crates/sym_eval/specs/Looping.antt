@@ -1,5 +1,5 @@
 -- What the walk of a loop onto a net is to give, part by part.
-use Rattle.std.specs.Prelude.{◌≡◌, ℕ, ◌+◌, ◌*◌, ◌<◌, ◌^◌, Bool, true, ◌&&◌, length, List, Option, Some, None, is_some, IsTrue}
+use Rattle.std.specs.Prelude.{◌≡◌, ℕ, zero, suc, ◌+◌, ◌*◌, ◌<◌, ◌^◌, Bool, false, true, ◌&&◌, length, List, Option, Some, None, is_some, IsTrue}
 use Rattle.std.specs.List.{list_all}
 use Rattle.c_core.specs.Tree.{Program, First, Stm}
 use Rattle.c_core.specs.Parts.{fulls_of_first, every_statement}
@@ -8,12 +8,12 @@ use Rattle.c_core.specs.declared.number.IntType.{IntType}
 use Rattle.c_core.specs.declared.number.Spot.{Spot}
 use Rattle.c_calls.specs.Loops.{changed_if}
 use Rattle.c_meaning.specs.declared.run.DutyKind.TheVariants.{Entry}
-use Rattle.c_meaning.specs.Acts.{Res, Go, Flow, Next, scoped, continued}
+use Rattle.c_meaning.specs.Acts.{Res, Go, Flow, Next, Broken, bind, go_on, scoped, continued}
 use Rattle.c_meaning.specs.Duties.{Placed, Duties}
-use Rattle.c_meaning.specs.Exec.{first, exec, turn}
-use Rattle.c_meaning.specs.Havoc.{Stopped}
+use Rattle.c_meaning.specs.Exec.{first, exec, turn, control, going}
+use Rattle.c_meaning.specs.Havoc.{Stopped, Passes}
 use Rattle.sym_meaning.specs.Mode.{JudgedState, cells_judged, with_cells_judged, Mode}
-use Rattle.sym_meaning.specs.Judged.{judged}
+use Rattle.sym_meaning.specs.Judged.{judged, stop}
 use Rattle.sym_meaning.specs.Obliging.{test_from, assume_all, redraw}
 use Rattle.c_meaning.specs.Meaning.{Loop, WhileLoop, DoLoop, ForLoop}
 use Rattle.c_meaning.specs.Objects.{type_or_int}
@@ -21,33 +21,53 @@ use Rattle.sym_state.specs.declared.state.Sym.{Sym}
 use Rattle.sym_state.specs.Standing.{IsState}
 use Rattle.sym_state.specs.Following.{Follows}
 use Rattle.sym_flow.specs.Leaving.{Runs}
-use Rattle.sym_weight.specs.Sum.{Sum}
-use Rattle.sym_weight.specs.Sum as sum
+use Rattle.sym_scale.specs.Cost as cost
+use Rattle.sym_scale.specs.Cost.{Cost, nodes, bits}
 use Rattle.sym_weight.specs.Table.{bits_of_objects}
-use Rattle.sym_weight.specs.Weight.{weighing, drawing, weight_in, bits_in, placed_weight, nowhere}
-use Rattle.sym_eval.specs.Control.{is_test, is_typed_if}
+use Rattle.sym_weight.specs.Weight.{placed_weight}
+use Rattle.sym_eval.specs.Control.{is_test, is_typed_if, test_glue}
 use Rattle.sym_eval.specs.Doing.{calls, weight_of, bits_of, weight_of_first, bits_of_first}
 
 -- and-nodes of one turn besides its parts: those of its test, and of its body's end
 abbrev pub turn_glue : ℕ
 turn_glue = 4
 
--- and those after the turn: runs at the head again end, and those that left the loop go on
+-- of the turn that begins no body: those of its test, and of the end of runs
+abbrev pub last_glue : ℕ
+last_glue = 4
+
+-- and those after the turns: runs at the head again end, and those that left the loop go on
 abbrev pub loop_glue : ℕ
 loop_glue = 6
 
--- what stands in a loop, if there is one, summed up as forms of statements are
-module _ (p : Program) (S : Sum) (at_place : Bool → Spot → ℕ) (gives : Option IntType) where
-  -- test, step and body
-  abbrev pub turn_parts : Option Loop → S.Amount
-  turn_parts None = S.none
-  turn_parts (Some (WhileLoop e b)) = S.both (sum.control p S e) (sum.statement p S at_place gives b)
-  turn_parts (Some (DoLoop b e)) = S.both (sum.statement p S at_place gives b) (sum.control p S e)
-  turn_parts (Some (ForLoop e s b)) = S.both (sum.control_if p S e) (S.both (sum.expression_if p S s) (sum.statement p S at_place gives b))
+-- what stands in a loop at a place, if there is one, summed up as forms of statements are
+module _ (p : Program) (C : Cost) (gives : Option IntType) (at : Spot) where
+  -- the test
+  abbrev pub test_part : Option Loop → ℕ
+  test_part None = 0
+  test_part (Some (WhileLoop e b)) = cost.control p C at e
+  test_part (Some (DoLoop b e)) = cost.control p C at e
+  test_part (Some (ForLoop e s b)) = cost.control_if p C at e
 
-  -- with the loop's head
-  abbrev pub loop_parts : Spot → Option Loop → S.Amount
-  loop_parts at l = S.both (sum.head p S at_place at (changed_if p l)) (turn_parts l)
+  -- step and body
+  abbrev pub rest_part : Option Loop → ℕ
+  rest_part None = 0
+  rest_part (Some (WhileLoop e b)) = cost.statement p C gives b
+  rest_part (Some (DoLoop b e)) = cost.statement p C gives b
+  rest_part (Some (ForLoop e s b)) = cost.expression_if p C s + cost.statement p C gives b
+
+  -- one turn
+  abbrev pub turn_parts : Option Loop → ℕ
+  turn_parts l = test_part l + rest_part l
+
+  -- all turns, with the loop's head
+  abbrev pub loop_parts : Option Loop → ℕ
+  loop_parts l = C.head at (changed_if p l) + C.turns (test_part l) (rest_part l)
+
+-- of turns of which r may begin the body, and of the one after them
+abbrev pub turns_parts : ℕ → ℕ → ℕ → ℕ
+turns_parts zero test rest = test
+turns_parts (suc r) test rest = test + rest + turns_parts r test rest
 
 module _ (p : Program) where
   -- the parts of a turn are typed, in a function of this result
@@ -84,33 +104,66 @@ module _ (p : Program) (W : Mode) (n : ℕ) (gives : Option IntType) where
   BodyDoes b old new = Runs W.duties p gives (1 + weight_of p W n gives b) (bits_of p W n gives b) old new (λ v. continued Stopped JudgedState cells_judged with_cells_judged (exec p (judged p W) (calls p W n) gives b true))
 
   -- ---- one turn
-  abbrev pub weight_of_turn : Option Loop → ℕ
-  weight_of_turn l = turn_parts p (weighing (weight_in p W.placed n)) (placed_weight p W.placed) gives l
+  abbrev pub weight_of_turn : Spot → Option Loop → ℕ
+  weight_of_turn at l = turn_parts p (nodes p W.scale n) gives at l
 
-  abbrev pub bits_of_turn : Option Loop → ℕ
-  bits_of_turn l = turn_parts p (drawing (bits_in p n)) nowhere gives l
+  abbrev pub bits_of_turn : Spot → Option Loop → ℕ
+  bits_of_turn at l = turn_parts p (bits p W.scale n) gives at l
 
   -- a turn can be done from a state
-  pub record TurnReady (s : Sym) (l : Option Loop) : Type 0 where
+  pub record TurnReady (at : Spot) (s : Sym) (l : Option Loop) : Type 0 where
     pub fits : IsState p s
     pub result : s.result ≡ type_or_int gives
     pub types : IsTrue (turn_fits p gives l)
-    pub room : length s.net + (turn_glue + (weight_of_turn l + bits_of_turn l)) < 2 ^ 27
+    pub room : length s.net + (turn_glue + (weight_of_turn at l + bits_of_turn at l)) < 2 ^ 27
 
-  -- where there is no loop, nothing is done
-  abbrev pub turned : Spot → Option Loop → JudgedState → Res Stopped JudgedState Flow
-  turned at None s = Go Next s
-  turned at (Some l) s = turn p (judged p W) (calls p W n) gives at l true s
+  -- told whether it may begin the body; where there is no loop, nothing is done
+  abbrev pub turned : Bool → Spot → Option Loop → JudgedState → Res Stopped JudgedState Flow
+  turned may at None s = Go Next s
+  turned may at (Some l) s = turn p (judged p W) (calls p W n) gives at l may s
 
   abbrev pub TurnDoes : Spot → Option Loop → Sym → Sym → Type 0
-  TurnDoes at l old new = Runs W.duties p gives (turn_glue + weight_of_turn l) (bits_of_turn l) old new (λ v. turned at l)
+  TurnDoes at l old new = Runs W.duties p gives (turn_glue + weight_of_turn at l) (bits_of_turn at l) old new (λ v. turned true at l)
+
+  -- ---- several turns, with the ways out of the loop open
+  -- the turns of which r may begin the body, and the one after them, which ends the runs that would begin it
+  abbrev pub open_turns : ℕ → Spot → Option Loop → JudgedState → Res Stopped JudgedState Flow
+  open_turns zero at l s = bind (turned false at l s) (go_on (stop Passes))
+  open_turns (suc r) at l s = bind (turned true at l s) (go_on (open_turns r at l))
+
+  -- and-nodes of their parts, and drawn bits
+  abbrev pub weight_of_turns : ℕ → Spot → Option Loop → ℕ
+  weight_of_turns r at l = turns_parts r (test_part p (nodes p W.scale n) gives at l) (rest_part p (nodes p W.scale n) gives at l)
+
+  abbrev pub bits_of_turns : ℕ → Spot → Option Loop → ℕ
+  bits_of_turns r at l = turns_parts r (test_part p (bits p W.scale n) gives at l) (rest_part p (bits p W.scale n) gives at l)
+
+  -- they can be done from a state
+  pub record TurnsReady (r : ℕ) (at : Spot) (s : Sym) (l : Option Loop) : Type 0 where
+    pub fits : IsState p s
+    pub result : s.result ≡ type_or_int gives
+    pub is : IsTrue (is_some l)
+    pub types : IsTrue (turn_fits p gives l)
+    pub room : length s.net + (last_glue + (turn_glue * r + (weight_of_turns r at l + bits_of_turns r at l))) < 2 ^ 27
+
+  abbrev pub TurnsDo : ℕ → Spot → Option Loop → Sym → Sym → Type 0
+  TurnsDo r at l old new = Runs W.duties p gives (last_glue + (turn_glue * r + weight_of_turns r at l)) (bits_of_turns r at l) old new (λ v. open_turns r at l)
+
+  -- the test of the turn that begins no body, where it has one before the body
+  abbrev pub last_tested : Spot → Option Loop → JudgedState → Res Stopped JudgedState Flow
+  last_tested at (Some (WhileLoop e b)) s = control p (judged p W) (calls p W n) at e (λ may s. Go Next s) (λ may s. Go Broken s) true s
+  last_tested at (Some (ForLoop e i b)) s = going p (judged p W) (calls p W n) at e (λ may s. Go Next s) true s
+  last_tested at _ s = Go Next s
+
+  abbrev pub LastDoes : Spot → Option Loop → Sym → Sym → Type 0
+  LastDoes at l old new = Runs W.duties p gives (test_glue + test_part p (nodes p W.scale n) gives at l) (test_part p (bits p W.scale n) gives at l) old new (λ v. last_tested at l)
 
   -- ---- the whole
   abbrev pub weight_of_loop : Spot → Option Loop → ℕ
-  weight_of_loop at l = loop_parts p (weighing (weight_in p W.placed n)) (placed_weight p W.placed) gives at l
+  weight_of_loop at l = loop_parts p (nodes p W.scale n) gives at l
 
   abbrev pub bits_of_loop : Spot → Option Loop → ℕ
-  bits_of_loop at l = loop_parts p (drawing (bits_in p n)) nowhere gives at l
+  bits_of_loop at l = loop_parts p (bits p W.scale n) gives at l
 
   -- a loop can be done from a state
   pub record LoopReady (at : Spot) (s : Sym) (l : Option Loop) : Type 0 where

@@ -39,21 +39,25 @@ module _ (p : Program) (W : Mode) (n : ℕ) where
   -- ---- the choice of an arm
   -- and-nodes of it, besides the test
   abbrev pub choice_cost : IntType → List ArmLabel → ℕ
-  choice_cost ty ls = conversion_cost p.model ty (promote_of ty) + (cases_cost p.model (promote_of ty) ls + 2 * length ls)
+  choice_cost ty ls = conversion_cost p.model ty (promote_of ty) + (cases_cost p.model (promote_of ty) ls + 3 * length ls)
+
+  -- with its event, in the statement at a place
+  abbrev pub weight_of_choice : Spot → Exp → List ArmLabel → ℕ
+  weight_of_choice at e ls = W.scale.test at + (weight_of p W n e + choice_cost (type_of e) ls)
 
   -- an arm can be chosen from a state
-  pub record ChoiceReady (s : Sym) (e : Exp) (ls : List ArmLabel) : Type 0 where
+  pub record ChoiceReady (at : Spot) (s : Sym) (e : Exp) (ls : List ArmLabel) : Type 0 where
     pub fits : IsState p s
     pub types : IsTrue (is_typed p e)
     pub value : IsTrue (has_value e)
     pub labels : IsTrue (list_all (label_fits p.model (promote_of (type_of e))) ls)
-    pub room : length s.net + (weight_of p W n e + choice_cost (type_of e) ls + bits_of p W n e) < 2 ^ 27
+    pub room : length s.net + (weight_of_choice at e ls + bits_of p W n e) < 2 ^ 27
 
   -- one was chosen, and its event told; the bits say arm by arm whether it is done
   pub record Chooses (at : Spot) (e : Exp) (ls : List ArmLabel) (old new : Sym) (bits : List Bit) : Type 0 where
     pub many : length bits ≡ length ls
     pub inside : AreIn new.net bits
-    pub follows : Follows W.duties p (weight_of p W n e + choice_cost (type_of e) ls) (bits_of p W n e) old new (λ v k. map (holds v new.net) bits ≡ done_from k ls)
+    pub follows : Follows W.duties p (weight_of_choice at e ls) (bits_of p W n e) old new (λ v k. map (holds v new.net) bits ≡ done_from k ls)
         (λ v s. bind (full p (judged p W) (calls p W n) at Used e s) (λ z. selected p W at (fit p.model (promote_of (type_of e)) z) ls))
 
   -- ---- arms, in a function of this result

@@ -6,7 +6,7 @@ ghost use Rattle.c_meaning.specs.Meaning.{Used};
 ghost use Rattle.sym_exprs.specs.Evaluating.{Ready, Values};
 ghost use Rattle.sym_exprs.specs.Targeting.{TargetReady};
 ghost use Rattle.sym_eval.specs.Targets.{finding, Found};
-ghost use Rattle.sym_invariants.specs.Walking.{program_of, mode_of, IsWalk};
+ghost use Rattle.sym_walk.specs.Walking.{program_of, mode_of, IsWalk};
 
 use crate::expressions::eval;
 use crate::targets::{Target, look_target, store_target};
@@ -15,9 +15,8 @@ use c_meaning::type_of;
 use circuits::{Bits, const_bits};
 use sym_elements::{find, find_in_row};
 use sym_exprs::is_prefix;
-use sym_invariants::Walk;
 use sym_state::{Around, Sym};
-use sym_values::operate;
+use sym_walk::{Walk, operate};
 use wv_base::OutOfMemory;
 
 // The cell that an expression means (ISO C11 6.3.2.1).
@@ -206,7 +205,7 @@ fn update(
     let x = look_target(walk.alloc, walk.program, sym, &cell, a)?;
     let y = eval(walk, sym, depth, at, true, from)?;
     let b = type_of(from);
-    let z = operate(walk.alloc, walk.program, sym, at, e.spot, op, a, &x, b, &y)?;
+    let z = operate(walk, sym, at, e.spot, op, a, &x, b, &y)?;
     let c = type_for(walk.program.model, op, a, b);
     let r = store_target(walk.alloc, walk.program, sym, &cell, c, a, &z)?;
     Ok(r)
@@ -242,18 +241,7 @@ pub fn step(
     let x = look_target(walk.alloc, walk.program, sym, &cell, a)?;
     let one = const_bits(walk.alloc, &sym.net, walk.program.model, IntType::Int, 1)?;
     let by = op_of_step(op);
-    let z = operate(
-        walk.alloc,
-        walk.program,
-        sym,
-        at,
-        e.spot,
-        by,
-        a,
-        &x,
-        IntType::Int,
-        &one,
-    )?;
+    let z = operate(walk, sym, at, e.spot, by, a, &x, IntType::Int, &one)?;
     let c = type_for(walk.program.model, by, a, IntType::Int);
     let w = store_target(walk.alloc, walk.program, sym, &cell, c, a, &z)?;
     Ok(value_of_step(is_prefix(op), w, x))

@@ -8,7 +8,7 @@ ghost use Rattle.c_meaning.specs.Objects as objects;
 ghost use Rattle.sym_state.specs.Standing.{IsState};
 ghost use Rattle.sym_eval.specs.Calling.{AllReady, AllValues, CallReady, Called, Ended, RunReady, HasRun};
 ghost use Rattle.sym_exprs.specs.Evaluating.{use_of, Ready, Values};
-ghost use Rattle.sym_invariants.specs.Walking.{program_of, mode_of, IsWalk};
+ghost use Rattle.sym_walk.specs.Walking.{program_of, mode_of, IsWalk};
 
 use crate::expressions::eval;
 use crate::parameters::{Argument, set_parameters};
@@ -18,9 +18,9 @@ use c_meaning::type_of;
 use circuits::{Bits, const_bits};
 use std::alloc::Global;
 use sym_flow::{come_back, enter, need};
-use sym_invariants::Walk;
 use sym_state::{Around, Sym};
 use sym_values::end;
+use sym_walk::{Walk, tell_enter, tell_return};
 use wv_base::OutOfMemory;
 
 /// The type of what a function gives; of one that gives nothing it isn't asked for.
@@ -82,24 +82,27 @@ fn end_call(
     Ok(bits)
 }
 
-// A function is run, with calls at most `depth` deep: its parameters, its body, and the value that comes back.
+// A function is run, with calls at most `depth` deep: its parameters, its body, the event of its return, and the value
+// that comes back.
 #[cycle(walk)]
 fn run_function(
     walk: &Walk,
     sym: &mut Sym,
     depth: u32,
+    close: Spot,
     needed: bool,
     function: &Function,
     arguments: &[Argument],
 ) -> Result<Bits, OutOfMemory>
     requires walk { IsWalk walk.now }
-    requires ready { RunReady (program_of walk.now) (mode_of walk.now) depth needed (function_view function.now)
-        sym.old arguments.now }
-    ensures { IfOk result (λ r. HasRun (program_of walk.now) (mode_of walk.now) depth needed
+    requires ready { RunReady (program_of walk.now) (mode_of walk.now) depth close needed
+        (function_view function.now) sym.old arguments.now }
+    ensures { IfOk result (λ r. HasRun (program_of walk.now) (mode_of walk.now) depth close needed
         (function_view function.now) arguments.now sym.old sym.new r.bits) }
 {
     let cells = sym.cells.len();
-    let caller = enter(walk.alloc, walk.program, sym, type_or_int(function.result))?;
+    let ty = type_or_int(function.result);
+    let caller = enter(walk.alloc, walk.program, sym, ty)?;
     set_parameters(
         walk.alloc,
         walk.program,
@@ -116,6 +119,15 @@ fn run_function(
         &function.body.form,
     )?;
     let back = come_back(walk.program, sym, caller, cells)?;
+    tell_return(
+        walk,
+        sym,
+        close,
+        function.result,
+        ty,
+        &back.value,
+        back.gave,
+    )?;
     need(sym, walk.program, back.gave, needed)?;
     Ok(back.value)
 }
@@ -141,20 +153,21 @@ fn call_found(
     walk: &Walk,
     sym: &mut Sym,
     depth: u32,
+    close: Spot,
     needed: bool,
     ty: Option<IntType>,
     function: u32,
     arguments: &[Argument],
 ) -> Result<Bits, OutOfMemory>
     requires walk { IsWalk walk.now }
-    requires ready { CallReady (program_of walk.now) (mode_of walk.now) depth function needed ty sym.old
+    requires ready { CallReady (program_of walk.now) (mode_of walk.now) depth close function needed ty sym.old
         arguments.now }
-    ensures { IfOk result (λ r. Called (program_of walk.now) (mode_of walk.now) depth function needed ty
+    ensures { IfOk result (λ r. Called (program_of walk.now) (mode_of walk.now) depth close function needed ty
         arguments.now sym.old sym.new r.bits) }
 {
     match function_at(walk.program, depth, function) {
         Some(found) => {
-            let bits = run_function(walk, sym, depth - 1, needed, found, arguments)?;
+            let bits = run_function(walk, sym, depth - 1, close, needed, found, arguments)?;
             Ok(bits)
         }
         None => {
@@ -185,7 +198,17 @@ pub fn call_defined(
         (t.Expr spot ty (t.Call (Defined function) (exprs_view args.now) close)) sym.old sym.new r.bits) }
 {
     let arguments = evals(walk, sym, depth, at, args)?;
+    tell_enter(walk, sym, close)?;
     let needed = is_needed(used, ty);
-    let bits = call_found(walk, sym, depth, needed, ty, function, arguments.as_slice())?;
+    let bits = call_found(
+        walk,
+        sym,
+        depth,
+        close,
+        needed,
+        ty,
+        function,
+        arguments.as_slice(),
+    )?;
     Ok(bits)
 }

@@ -5,7 +5,7 @@ ghost use Rattle.circuits.specs.Net.{holds, IsIn};
 ghost use Rattle.sym_flow.specs.Ways.{Became};
 ghost use Rattle.sym_state.specs.Standing.{IsState};
 ghost use Rattle.sym_exprs.specs.Evaluating.{use_of};
-ghost use Rattle.sym_invariants.specs.Walking.{program_of, mode_of, IsWalk};
+ghost use Rattle.sym_walk.specs.Walking.{program_of, mode_of, IsWalk};
 ghost use Rattle.sym_eval.specs.Doing.{ControlReady, Decides};
 ghost use Rattle.sym_eval.specs.Control.{FullReady, FullGives, parting, TestReady, TestDoes, TestIfReady, TestIfDoes, StepReady, StepDoes};
 
@@ -14,9 +14,9 @@ use c_core::{Expr, Program, Spot};
 use c_meaning::type_of;
 use circuits::{Bit, Bits, not};
 use sym_flow::leave_loop;
-use sym_invariants::{Walk, around};
 use sym_state::{Sym, narrow};
 use sym_values::test;
+use sym_walk::{Walk, around, tell_branch};
 use wv_base::OutOfMemory;
 
 /// A full expression of the statement at a place (C11 6.8p4).
@@ -39,7 +39,7 @@ pub fn full(
     Ok(bits)
 }
 
-/// Is a controlling expression's value other than zero? (C11 6.8.4.1p2, 6.8.5p4)
+/// Is a controlling expression's value other than zero? Its event is told. (C11 6.8.4.1p2, 6.8.5p4)
 #[cycle(walk)]
 pub fn decided(
     walk: &Walk,
@@ -49,12 +49,13 @@ pub fn decided(
     e: &Expr,
 ) -> Result<Bit, OutOfMemory>
     requires walk { IsWalk walk.now }
-    requires ready { ControlReady (program_of walk.now) (mode_of walk.now) depth sym.old (expr_view e.now) }
+    requires ready { ControlReady (program_of walk.now) (mode_of walk.now) depth at sym.old (expr_view e.now) }
     ensures { IfOk result (λ r. Decides (program_of walk.now) (mode_of walk.now) depth at (expr_view e.now)
         sym.old sym.new r) }
 {
     let x = full(walk, sym, depth, at, true, e)?;
     let bit = test(walk.alloc, walk.program, sym, type_of(e), &x)?;
+    tell_branch(walk, sym, at, bit)?;
     Ok(bit)
 }
 
@@ -83,7 +84,7 @@ pub fn test_turn(
     e: &Expr,
 ) -> Result<(), OutOfMemory>
     requires walk { IsWalk walk.now }
-    requires ready { TestReady (program_of walk.now) (mode_of walk.now) depth sym.old (expr_view e.now) }
+    requires ready { TestReady (program_of walk.now) (mode_of walk.now) depth at sym.old (expr_view e.now) }
     ensures { IfOk result (λ r. TestDoes (program_of walk.now) (mode_of walk.now) depth at (expr_view e.now)
         sym.old sym.new) }
 {
@@ -102,7 +103,7 @@ pub fn test_turn_if(
     e: &Option<Expr>,
 ) -> Result<(), OutOfMemory>
     requires walk { IsWalk walk.now }
-    requires ready { TestIfReady (program_of walk.now) (mode_of walk.now) depth sym.old (expr_view_if e.now) }
+    requires ready { TestIfReady (program_of walk.now) (mode_of walk.now) depth at sym.old (expr_view_if e.now) }
     ensures { IfOk result (λ r. TestIfDoes (program_of walk.now) (mode_of walk.now) depth at (expr_view_if e.now)
         sym.old sym.new) }
 {

@@ -2,7 +2,7 @@
 ghost use Rattle.std.specs.Prelude.{◌≡◌, ◌*◌, IfOk};
 ghost use Rattle.c_core.specs.Tree as t;
 ghost use Rattle.c_core.specs.View.{expr_view, exprs_view, first_view, init_view, names_view, rows_view};
-ghost use Rattle.sym_invariants.specs.Walking.{program_of, mode_of, IsWalk};
+ghost use Rattle.sym_walk.specs.Walking.{program_of, mode_of, IsWalk};
 ghost use Rattle.sym_eval.specs.Doing.{InitialsReady, InitialsDo, RowsReady, RowsDo, InitialReady, InitialDoes, NamesReady, NamesDo, FirstReady, FirstDoes};
 
 use crate::control::full;
@@ -10,9 +10,9 @@ use c_core::{Declared, Expr, First, Init, Row, Spot};
 use c_meaning::{DrawKind, size_of_object, type_of, type_of_object};
 use sym_elements::columns_of_object;
 use sym_flow::{declare, draw_cells};
-use sym_invariants::Walk;
 use sym_state::{Sym, write};
 use sym_values::convert;
+use sym_walk::Walk;
 use wv_base::OutOfMemory;
 
 // One value of an initializer.

@@ -5,7 +5,7 @@ ghost use Rattle.c_core.specs.View.{expr_view, exprs_view};
 ghost use Rattle.c_core.specs.declared.tree.Callee.TheVariants.{Exit};
 ghost use Rattle.c_meaning.specs.Meaning.{Used};
 ghost use Rattle.sym_exprs.specs.Evaluating.{use_of, Ready, Values, ReadyWhere, ValuesWhere};
-ghost use Rattle.sym_invariants.specs.Walking.{program_of, mode_of, IsWalk};
+ghost use Rattle.sym_walk.specs.Walking.{program_of, mode_of, IsWalk};
 
 use crate::assignments::{assign, indexed, step};
 use crate::calls::call_defined;
@@ -14,9 +14,9 @@ use c_core::{BinOp, Callee, Expr, IntType, Node, Spot, UnOp};
 use c_meaning::type_of;
 use circuits::{Bit, Bits, const_bits, not};
 use sym_exprs::kept_if;
-use sym_invariants::Walk;
 use sym_state::{Around, Sym, join, look, narrow};
-use sym_values::{choose, convert, end, input, operate, operate_one, reach, test, truth};
+use sym_values::{choose, convert, end, input, test, truth};
+use sym_walk::{Walk, operate, operate_one, reach, tell_branch, tell_enter, tell_value};
 use wv_base::{OutOfMemory, Seq};
 
 /// An expression, at a statement and a full expression, with calls at most `depth` deep. A void one gives any bits.
@@ -153,7 +153,7 @@ fn unary(
         (t.Expr e.now.spot e.now.ty (t.Unary op (expr_view of.now))) sym.old sym.new r.bits) }
 {
     let x = eval(walk, sym, depth, at, true, of)?;
-    let r = operate_one(walk.alloc, walk.program, sym, at, op, type_of(of), &x)?;
+    let r = operate_one(walk, sym, at, op, type_of(of), &x)?;
     Ok(r)
 }
 
@@ -179,7 +179,7 @@ fn binary(
     let y = eval(walk, sym, depth, at, true, right)?;
     let a = type_of(left);
     let b = type_of(right);
-    let r = operate(walk.alloc, walk.program, sym, at, e.spot, op, a, &x, b, &y)?;
+    let r = operate(walk, sym, at, e.spot, op, a, &x, b, &y)?;
     Ok(r)
 }
 
@@ -342,6 +342,7 @@ fn pick(
 {
     let e = eval(walk, sym, depth, at, true, condition)?;
     let go = test(walk.alloc, walk.program, sym, type_of(condition), &e)?;
+    tell_branch(walk, sym, mark, go)?;
     let x = eval_where(walk, sym, depth, at, go, yes)?;
     let u = convert(walk.alloc, walk.program, sym, type_of(yes), to, &x)?;
     let other = not(go);
@@ -373,6 +374,7 @@ fn void_arms(
 {
     let e = eval(walk, sym, depth, at, true, condition)?;
     let go = test(walk.alloc, walk.program, sym, type_of(condition), &e)?;
+    tell_branch(walk, sym, mark, go)?;
     let _nothing = eval_where(walk, sym, depth, at, go, yes)?;
     let other = not(go);
     let r = eval_where(walk, sym, depth, at, other, no)?;
@@ -403,15 +405,19 @@ fn call(
             call_defined(walk, sym, depth, at, used, e.spot, e.ty, f, args, close)
         }
         Callee::Input(of) => {
+            tell_enter(walk, sym, close)?;
             let r = input(walk.alloc, walk.program, sym, e.spot, of)?;
+            tell_value(walk, sym, close, of, &r)?;
             Ok(r)
         }
         Callee::ReachError => {
-            reach(sym, walk.program, at)?;
+            tell_enter(walk, sym, close)?;
+            reach(walk, sym, at, e.spot)?;
             let bits = Seq::new(walk.alloc);
             Ok(Bits { bits })
         }
         Callee::Abort => {
+            tell_enter(walk, sym, close)?;
             end(sym, walk.program)?;
             let bits = Seq::new(walk.alloc);
             Ok(Bits { bits })
@@ -437,6 +443,7 @@ fn exit(
         (t.Expr e.now.spot e.now.ty (t.Call Exit (exprs_view args.now) close)) sym.old sym.new r.bits) }
 {
     let r = eval(walk, sym, depth, at, true, &args[0])?;
+    tell_enter(walk, sym, close)?;
     end(sym, walk.program)?;
     Ok(r)
 }

@@ -15,4 +15,4 @@ mod statements;
 mod switches;
 mod targets;
 
-pub use programs::obligations;
+pub use programs::{obligations, whole};

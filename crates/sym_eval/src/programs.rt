@@ -1,11 +1,12 @@
-// Whole programs: their obligations as a net.
+// Whole programs as nets: their runs in a mode, and their obligations.
 ghost use Rattle.std.specs.Prelude.{◌≡◌, ◌≤◌, ◌<◌, ◌^◌, IfOk, IsTrue, None, Some, length, slice_get};
 ghost use Rattle.std.specs.List.{All};
 ghost use Rattle.c_calls.specs.Calling.{IsFirstRecursion};
 ghost use Rattle.c_core.specs.View.{program_view};
 ghost use Rattle.sym_duties.specs.Answers.{AnswersFor, IsNamedRecursion, names_of};
-ghost use Rattle.sym_invariants.specs.Walking.{program_of, invariants_of, IsWalk};
-ghost use Rattle.sym_eval.specs.Whole.{IsWhole, IsLight, AreMade};
+ghost use Rattle.sym_walk.specs.Walking.{program_of, mode_of, IsWalk};
+ghost use Rattle.sym_eval.specs.Whole.{IsWhole, IsLight, IsLightEnough, AreMade};
+ghost use Rattle.sym_whole.specs.Starting.{at_start};
 ghost use Rattle.c_meaning.specs.Placing.{IsInvariant, placed_view};
 
 use crate::calls::type_or_int;
@@ -18,9 +19,11 @@ use c_meaning::PlacedInvariant;
 use std::alloc::Global;
 use sym_duties::{Obligations, SymFault};
 use sym_flow::enter;
-use sym_invariants::{Obliging, Walk};
+use sym_invariants::Obliging;
 use sym_meaning::havoc_runs_are_judged;
+use sym_scale::obligations_cost_their_weight;
 use sym_state::Sym;
+use sym_walk::{Judging, Walk};
 use sym_weight::weigh;
 use sym_whole::start;
 use wv_base::{OutOfMemory, Seq, Text};
@@ -47,15 +50,16 @@ fn recursive(alloc: Global, program: &Program, function: u32) -> Result<Text, Ou
     Ok(name)
 }
 
-// The state after main's body: what it says of all havoc runs.
-fn whole(walk: &Walk) -> Result<Sym, OutOfMemory>
+/// The state after main's body, with calls at most `depth` deep: what it says of all judged runs. There are this many
+/// duties, and this many segments to follow.
+pub fn whole(walk: &Walk, duties: u32, segments: u32, depth: u32) -> Result<Sym, OutOfMemory>
     requires walk { IsWalk walk.now }
-    requires light { IsLight (program_of walk.now) (invariants_of walk.now) }
-    ensures { IfOk result (λ s. IsWhole (program_of walk.now) (invariants_of walk.now) s) }
+    requires duties { duties ≡ length (mode_of walk.now).duties }
+    requires light { IsLight (program_of walk.now) (mode_of walk.now) depth }
+    ensures { IfOk result (λ s. IsWhole (program_of walk.now) (mode_of walk.now) depth (at_start segments) s) }
 {
     let program = walk.program;
-    let depth = small(program.functions.len())?;
-    let mut sym = start(walk.alloc, program, walk.mode.duties.len() as u32)?;
+    let mut sym = start(walk.alloc, program, duties, segments)?;
     let main = &program.functions.as_slice()[program.main as usize];
     let _caller = enter(walk.alloc, program, &mut sym, type_or_int(main.result))?;
     let body = &main.body;
@@ -71,20 +75,22 @@ fn made<'a>(
     invariants: &'a Seq<PlacedInvariant>,
 ) -> Result<Obligations, OutOfMemory>
     requires invariants { All (IsInvariant (program_view program.now)) (placed_view invariants.now) }
-    requires light { IsLight (program_view program.now) (placed_view invariants.now) }
+    requires light { IsLightEnough (program_view program.now) (placed_view invariants.now) }
     ensures { IfOk result (AreMade (program_view program.now) (placed_view invariants.now)) }
 {
     let list = duties(alloc, program, invariants)?;
-    small(list.len())?;
+    let count = small(list.len())?;
+    let depth = small(program.functions.len())?;
     let walk = Walk {
         alloc,
         program,
-        mode: Obliging {
+        mode: Judging::Obliges(Obliging {
             invariants: invariants.as_slice(),
             duties: list.as_slice(),
-        },
+        }),
     };
-    let sym = whole(&walk)?;
+    obligations_cost_their_weight();
+    let sym = whole(&walk, count, 0, depth)?;
     havoc_runs_are_judged();
     test_sites(alloc, program, sym.sites.as_slice())?;
     Ok(Obligations {

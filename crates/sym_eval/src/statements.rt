@@ -3,7 +3,7 @@ ghost use Rattle.std.specs.Prelude.{IfOk, Some};
 ghost use Rattle.c_core.specs.Tree as t;
 ghost use Rattle.c_core.specs.View.{expr_view, expr_view_if, form_view, stmt_view, stmts_view};
 ghost use Rattle.sym_weight.specs.Views.{else_of};
-ghost use Rattle.sym_invariants.specs.Walking.{program_of, mode_of, IsWalk};
+ghost use Rattle.sym_walk.specs.Walking.{program_of, mode_of, IsWalk};
 ghost use Rattle.sym_eval.specs.Doing.{Ready, Does, ScopeDoes, FormReady, FormDoes, ElseReady, ElseDoes, BlockReady, BlockDoes};
 
 use crate::control::{decided, full};
@@ -11,15 +11,15 @@ use crate::declarations::declare_names;
 use crate::loops::one_loop;
 use crate::switches::switch;
 use c_core::{Expr, Form, IntType, Spot, Stmt};
-use c_meaning::{DutyKind, type_of};
+use c_meaning::type_of;
 use circuits::not;
 use sym_flow::{cut, give, go_again, go_back, leave_loop};
-use sym_invariants::{Walk, test_all};
 use sym_state::{Sym, join, narrow};
 use sym_values::convert;
+use sym_walk::{Walk, begin};
 use wv_base::OutOfMemory;
 
-/// A statement: its location invariants are tested, and its form is done.
+/// A statement: what its mode does before it, and then its form.
 #[cycle(walk)]
 #[inline(always)]
 pub fn statement(
@@ -34,7 +34,7 @@ pub fn statement(
     ensures { IfOk result (λ r. Does (program_of walk.now) (mode_of walk.now) depth gives (stmt_view s.now)
         sym.old sym.new) }
 {
-    test_all(walk, sym, false, s.spot, DutyKind::Location)?;
+    begin(walk, sym, s.spot)?;
     form(walk, sym, depth, gives, s.spot, &s.form)?;
     Ok(())
 }

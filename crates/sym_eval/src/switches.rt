@@ -4,7 +4,7 @@ ghost use Rattle.std.specs.Prelude.{IfOk};
 ghost use Rattle.c_core.specs.Tree as t;
 ghost use Rattle.c_core.specs.Typing.{labels_in};
 ghost use Rattle.c_core.specs.View.{expr_view, stmts_view, switch_view};
-ghost use Rattle.sym_invariants.specs.Walking.{program_of, mode_of, IsWalk};
+ghost use Rattle.sym_walk.specs.Walking.{program_of, mode_of, IsWalk};
 ghost use Rattle.sym_eval.specs.Doing.{FormReady, FormDoes};
 ghost use Rattle.sym_eval.specs.Switching.{ChoiceReady, Chooses, ArmReady, ArmDoes, ArmsReady, ArmsDo};
 
@@ -15,12 +15,12 @@ use c_meaning::type_of;
 use circuits::{Bit, not};
 use sym_choices::{case_bits, enter_arms};
 use sym_flow::{end_loop, start_loop};
-use sym_invariants::Walk;
 use sym_state::{Sym, join, narrow};
 use sym_values::convert;
+use sym_walk::{Walk, tell_choice};
 use wv_base::OutOfMemory;
 
-// The test is promoted, and its value chooses the arm: for each arm a bit, whether it is done.
+// The test is promoted, and its value chooses the arm, which is told: for each arm a bit, whether it is done.
 #[cycle(walk)]
 #[inline(never)]
 fn chosen(
@@ -32,7 +32,7 @@ fn chosen(
     arms: &[Arm],
 ) -> Result<Vec<Bit>, OutOfMemory>
     requires walk { IsWalk walk.now }
-    requires ready { ChoiceReady (program_of walk.now) (mode_of walk.now) depth sym.old (expr_view test.now)
+    requires ready { ChoiceReady (program_of walk.now) (mode_of walk.now) depth at sym.old (expr_view test.now)
         (labels_in (switch_view arms.now)) }
     ensures { IfOk result (λ r. Chooses (program_of walk.now) (mode_of walk.now) depth at (expr_view test.now)
         (labels_in (switch_view arms.now)) sym.old sym.new r.items) }
@@ -42,6 +42,7 @@ fn chosen(
     let ty = promote(walk.program.model, from);
     let y = convert(walk.alloc, walk.program, sym, from, ty, &x)?;
     let cases = case_bits(walk.alloc, walk.program, sym, ty, &y, arms)?;
+    tell_choice(walk, sym, at, ty, &y, arms, &cases)?;
     let bits = enter_arms(walk.alloc, walk.program, sym, &cases, arms)?;
     Ok(bits)
 }

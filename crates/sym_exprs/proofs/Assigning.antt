@@ -125,7 +125,7 @@ module _ (p : Program) (W : Mode) (n : ℕ) (at : Around) where
       }
 
   -- ---- `++` and `--`
-  step_cost : (op : StepOp) (a : IntType) → operated_cost p.model (op_of_step op) a Int ≤ 4 + (conversion_cost p.model a (type_for p.model (op_of_step op) a Int) + 16 * width_of p.model (type_for p.model (op_of_step op) a Int))
+  step_cost : (op : StepOp) (a : IntType) → operated_cost p.model (op_of_step op) a Int ≤ 5 + (conversion_cost p.model a (type_for p.model (op_of_step op) a Int) + 16 * width_of p.model (type_for p.model (op_of_step op) a Int))
   step_cost PreInc a = omega (arith, one_converts p.model a)
   step_cost PreDec a = omega (arith, one_converts p.model a)
   step_cost PostInc a = omega (arith, one_converts p.model a)
@@ -219,7 +219,7 @@ module _ (p : Program) (W : Mode) (n : ℕ) (at : Around) where
 
   pub update_sides : {s x x2 y : Sym} {xs ys : List Bit} {deed : Deed ℤ} {f r : ℕ} {keys : Keys} (spot : Spot) (ty : Option IntType) (op : BinOp) (a b : Exp) (ta tb : IntType) → ta ≡ type_of a → tb ≡ type_of b
       → Ready p W n at s (Expr spot ty (Assign (Some op) a b)) → Targets p W n at f a keys s x → Gives p W r 0 x x2 (Some ta) xs deed → Values p W n at Used b x2 y ys
-      → f + r ≤ 12 + (conversion p.model (type_for p.model op (type_of a) (type_of b)) (type_of a) + (read_weight p a + written p a))
+      → f + r ≤ 11 + (conversion p.model (type_for p.model op (type_of a) (type_of b)) (type_of a) + (read_weight p a + written p a))
       → AreTyped p.model ta y.net xs × AreTyped p.model tb y.net ys × (length y.net + operated_cost p.model op ta tb < 2 ^ 27)
   update_sides {y = y} {xs = xs} {ys = ys} {r = r} spot ty op a b ta tb ea eb h gt gl gb cost =
       let q = assign_parts p spot ty (Some op) a b h.types in
@@ -257,7 +257,7 @@ module _ (p : Program) (W : Mode) (n : ℕ) (at : Around) where
       (subst (λ k. Gives p W w 0 z m (Some a1) rs (stored_at p W keys k a1 zs z)) (ec ∙ ap₂ (λ i j. type_for p.model op i j) ea eb) (subst (λ k. Gives p W w 0 z m (Some k) rs (stored_at p W keys tc k zs z)) ea gs)) cost
 
   pub step_sides : {s x x2 : Sym} {xs : List Bit} {deed : Deed ℤ} {f r : ℕ} {keys : Keys} (spot : Spot) (ty : Option IntType) (op : StepOp) (a : Exp) (ta : IntType) (by : BinOp) → ta ≡ type_of a → by ≡ op_of_step op
-      → Ready p W n at s (Expr spot ty (Step op a)) → Targets p W n at f a keys s x → Gives p W r 0 x x2 (Some ta) xs deed → f + r ≤ 12 + (read_weight p a + written p a) → length x2.net + operated_cost p.model by ta Int < 2 ^ 27
+      → Ready p W n at s (Expr spot ty (Step op a)) → Targets p W n at f a keys s x → Gives p W r 0 x x2 (Some ta) xs deed → f + r ≤ 11 + (read_weight p a + written p a) → length x2.net + operated_cost p.model by ta Int < 2 ^ 27
   step_sides spot ty op a ta by ea eo h gt gl cost =
       let same : operated_cost p.model by ta Int ≡ operated_cost p.model (op_of_step op) (type_of a) Int = ap₂ (λ i j. operated_cost p.model i j Int) eo ea in
       omega (arith, cost, same, step_cost op (type_of a), conversion_costs p.model (type_of a) (type_for p.model (op_of_step op) (type_of a) Int), (longer_by gt.follows.added).1, (longer_by gl.follows.added).1, h.room)

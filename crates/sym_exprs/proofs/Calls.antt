@@ -33,9 +33,9 @@ module _ (p : Program) (W : Mode) (n : ℕ) (at : Around) where
   -- the call is entered, draws, and comes back with the value
   pub input_values : {s x y m : Sym} {bits : List Bit} (i j : ℕ) (spot close : Spot) (ty : Option IntType) (t : IntType) (es : Exps) → Ready p W n at s (Expr spot ty (Call (Input t) es close))
       → Turned p i 0 s x (λ v. telling W (Enter close)) → Gives p W 0 (width_of p.model t) x y (Some t) bits (input_of p W spot t)
-      → Turned p j 0 y m (λ v. telling W (Return close (Some (typed p.model t v y.net bits)))) → i + j ≤ 80
+      → Turned p j 0 y m (λ v. telling W (Return close (Some (typed p.model t v y.net bits)))) → i ≤ W.scale.enters close → j ≤ W.scale.returns close
       → Values p W n at Used (Expr spot ty (Call (Input t) es close)) s m bits
-  input_values {s} {x} {y} {m} {bits} i j spot close ty t es h e d r k =
+  input_values {s} {x} {y} {m} {bits} i j spot close ty t es h e d r le few =
       let q = input_parts p spot close ty t es h.types in
       let same : (v : ℕ → Bool) → typed p.model t v m.net bits ≡ typed p.model t v y.net bits = λ v. typed_added r.added p.model t v bits d.bits_in in
       let back : Follows W.duties p j 0 y m (λ v z. z ≡ typed p.model t v m.net bits) (λ v k. bind (tell p W (Return close (Some (typed p.model t v y.net bits))) k) (λ u k. Go (typed p.model t v y.net bits) k)) =
@@ -47,7 +47,7 @@ module _ (p : Program) (W : Mode) (n : ℕ) (at : Around) where
         bits_in = are_typed_added r.added d.bits_in;
         follows = follows_as p W.duties
             (follows_then p W.duties (i + j) (width_of p.model t) (λ v u k. bind (input_of p W spot t v k) (λ z k. bind (tell p W (Return close (Some z)) k) (λ u k. Go z k))) (told_follows p W (λ v. Enter close) e) rest (λ v u f k. refl) (omega arith) (omega arith))
-            (λ v z e. e) (λ v l. refl) (omega (arith, k)) (omega arith);
+            (λ v z e. e) (λ v l. refl) (omega (arith, le, few)) (omega arith);
       })
 
   -- the call site of a node
@@ -60,15 +60,15 @@ module _ (p : Program) (W : Mode) (n : ℕ) (at : Around) where
   ends_in {deed = deed} g close e x le = follows_then p W.duties g 0 (λ v u l. deed v l) (told_follows p W (λ v. Enter close) e) x (λ v u f l. refl) le (omega arith)
 
   pub reach_values : {s x m : Sym} (i : ℕ) (bits : List Bit) (spot close : Spot) (ty : Option IntType) (es : Exps) → Ready p W n at s (Expr spot ty (Call ReachError es close))
-      → Turned p i 0 s x (λ v. telling W (Enter close)) → Ends p W 3 x m (reach_of p W at (site_of spot close ty)) → i ≤ 64
+      → Turned p i 0 s x (λ v. telling W (Enter close)) → Ends p W 4 x m (reach_of p W at (site_of spot close ty)) → i ≤ W.scale.enters close
       → Values p W n at Used (Expr spot ty (Call ReachError es close)) s m bits
   reach_values {s} {x} {m} i bits spot close ty es h e y le =
       let q = reach_parts p spot close ty es h.types in
       subst (λ k. Values p W n at Used (Expr spot ty (Call ReachError k close)) s m bits) (sym q.0)
-      (as_values p W n at (Expr spot ty (Call ReachError NoExp close)) q.1 record { bits_in = tt; follows = follows_as p W.duties (ends_in (i + 3) close e y (omega arith)) (λ v z e. tt) (λ v l. refl) (omega (arith, le)) (omega arith) })
+      (as_values p W n at (Expr spot ty (Call ReachError NoExp close)) q.1 record { bits_in = tt; follows = follows_as p W.duties (ends_in (i + 4) close e y (omega arith)) (λ v z e. tt) (λ v l. refl) (omega (arith, le)) (omega arith) })
 
   pub abort_values : {s x m : Sym} (i : ℕ) (bits : List Bit) (spot close : Spot) (ty : Option IntType) (es : Exps) → Ready p W n at s (Expr spot ty (Call Abort es close))
-      → Turned p i 0 s x (λ v. telling W (Enter close)) → Ends p W 1 x m (end_of p W) → i ≤ 64
+      → Turned p i 0 s x (λ v. telling W (Enter close)) → Ends p W 1 x m (end_of p W) → i ≤ W.scale.enters close
       → Values p W n at Used (Expr spot ty (Call Abort es close)) s m bits
   abort_values {s} {x} {m} i bits spot close ty es h e y le =
       let q = abort_parts p spot close ty es h.types in
@@ -92,7 +92,7 @@ module _ (p : Program) (W : Mode) (n : ℕ) (at : Around) where
   exit_room spot close ty e h ge = omega (arith, (longer_by ge.follows.added).1, h.room)
 
   pub exit_values : {s x y m : Sym} {xs : List Bit} (i : ℕ) (bits : List Bit) (spot close : Spot) (ty : Option IntType) (e : Exp) → Ready p W n at s (Expr spot ty (Call Exit (MoreExp e NoExp) close))
-      → Values p W n at Used e s x xs → Turned p i 0 x y (λ v. telling W (Enter close)) → Ends p W 1 y m (end_of p W) → i ≤ 64
+      → Values p W n at Used e s x xs → Turned p i 0 x y (λ v. telling W (Enter close)) → Ends p W 1 y m (end_of p W) → i ≤ W.scale.enters close
       → Values p W n at Used (Expr spot ty (Call Exit (MoreExp e NoExp) close)) s m bits
   exit_values {s} {x} {y} {m} i bits spot close ty e h ge ev z le =
       let whole = Expr spot ty (Call Exit (MoreExp e NoExp) close) in

@@ -210,7 +210,7 @@ module _ (p : Program) (W : Mode) (n : ℕ) (at : Around) where
   pub choose_values : {s x x2 x3 y y2 z z2 m : Sym} {es xs cs ys ds rs : List Bit} (j : ℕ) (spot mark : Spot) (to : IntType) (e a b : Exp) (go other : Bit)
       → Ready p W n at s (Expr spot (Some to) (Choose mark e a b)) → Values p W n at Used e s x es
       → Decided p (conversion_cost p.model (type_of e) BoolType) x x2 go (λ v. not (is_zero (typed p.model (type_of e) v x.net es))) → other ≡ opposite go
-      → Turned p j 0 x2 x3 (λ v. telling W (Branch mark (Truth (not (is_zero (typed p.model (type_of e) v x.net es)))))) → j ≤ 4
+      → Turned p j 0 x2 x3 (λ v. telling W (Branch mark (Truth (not (is_zero (typed p.model (type_of e) v x.net es)))))) → j ≤ W.scale.test mark
       → ValuesWhere p W n at go a x3 y xs → Reckoned p (conversion_cost p.model (type_of a) to) y y2 to cs (λ v. fit p.model to (typed p.model (type_of a) v y.net xs))
       → ValuesWhere p W n at other b y2 z ys → Reckoned p (conversion_cost p.model (type_of b) to) z z2 to ds (λ v. fit p.model to (typed p.model (type_of b) v z.net ys))
       → Reckoned p (4 * width_of p.model to) z2 m to rs (λ v. cond (holds v z2.net go) (typed p.model to v z2.net cs) (typed p.model to v z2.net ds))
@@ -308,7 +308,7 @@ module _ (p : Program) (W : Mode) (n : ℕ) (at : Around) where
   void_values : {s x x2 x3 y z : Sym} {es xs ys : List Bit} (j : ℕ) (spot mark : Spot) (e a b : Exp) (go other : Bit)
       → Ready p W n at s (Expr spot None (Choose mark e a b)) → Values p W n at Used e s x es
       → Decided p (conversion_cost p.model (type_of e) BoolType) x x2 go (λ v. not (is_zero (typed p.model (type_of e) v x.net es))) → other ≡ opposite go
-      → Turned p j 0 x2 x3 (λ v. telling W (Branch mark (Truth (not (is_zero (typed p.model (type_of e) v x.net es)))))) → j ≤ 4
+      → Turned p j 0 x2 x3 (λ v. telling W (Branch mark (Truth (not (is_zero (typed p.model (type_of e) v x.net es)))))) → j ≤ W.scale.test mark
       → ValuesWhere p W n at go a x3 y xs → ValuesWhere p W n at other b y z ys → Values p W n at Used (Expr spot None (Choose mark e a b)) s z ys
   void_values {s} {x} {x2} {x3} {y} {z} {es} {xs} {ys} j spot mark e a b go other h ge d eo ev few wa wb =
       let whole = Expr spot None (Choose mark e a b) in
@@ -388,18 +388,37 @@ module _ (p : Program) (W : Mode) (n : ℕ) (at : Around) where
   pick_first spot mark ty e a b te ee h ge =
       (rw ee (value_in p W n at e (type_of e) (has_one e (choose_parts p spot mark ty e a b h.types).test) ge), omega (arith, (longer_by ge.follows.added).1, h.room))
 
-  pub pick_yes : {s x x2 : Sym} {es : List Bit} {f : (ℕ → Bool) → Bool} (spot mark : Spot) (ty : Option IntType) (e a b : Exp) (te : IntType) (go : Bit) → te ≡ type_of e → Ready p W n at s (Expr spot ty (Choose mark e a b))
-      → Values p W n at Used e s x es → Decided p (conversion_cost p.model te BoolType) x x2 go f → ReadyWhere p W n at go x2 a
+  -- a test was made, and its event told
+  pub record IsBranched (mark : Spot) (te : IntType) (x z : Sym) (go : Bit) : Type 0 where
+    pub becomes : (ℕ → Bool) → Stand → Stand
+    pub turned : Turned p (conversion_cost p.model te BoolType + W.scale.test mark) 0 x z becomes
+    pub inside : IsIn z.net go
+
+  pub branched : {x y z : Sym} {f : (ℕ → Bool) → Bool} {g : (ℕ → Bool) → Stand → Stand} (mark : Spot) (te : IntType) (go : Bit) → Decided p (conversion_cost p.model te BoolType) x y go f → Turned p (W.scale.test mark) 0 y z g → IsBranched mark te x z go
+  branched mark te go d ev = record {
+    becomes = _;
+    turned = turned_then p (conversion_cost p.model te BoolType + W.scale.test mark) 0 d.turned ev (omega arith) (omega arith);
+    inside = in_added ev.added go d.means.inside;
+  }
+
+  -- there is room for the event
+  pub branch_room : {s x y : Sym} {es : List Bit} {f : (ℕ → Bool) → Bool} (spot mark : Spot) (ty : Option IntType) (e a b : Exp) (te : IntType) (go : Bit) → te ≡ type_of e → Ready p W n at s (Expr spot ty (Choose mark e a b)) → Values p W n at Used e s x es
+      → Decided p (conversion_cost p.model te BoolType) x y go f → length y.net + W.scale.test mark < 2 ^ 27
+  branch_room spot mark ty e a b te go ee h ge d =
+      omega (arith, test_costs p.model (type_of e), ap (λ t. conversion_cost p.model t BoolType) ee, (longer_by ge.follows.added).1, (longer_by d.turned.added).1, h.room)
+
+  pub pick_yes : {s x x2 : Sym} {es : List Bit} (spot mark : Spot) (ty : Option IntType) (e a b : Exp) (te : IntType) (go : Bit) → te ≡ type_of e → Ready p W n at s (Expr spot ty (Choose mark e a b))
+      → Values p W n at Used e s x es → IsBranched mark te x x2 go → ReadyWhere p W n at go x2 a
   pick_yes spot mark ty e a b te go ee h ge d = record {
     fits = d.turned.fits;
-    go_in = d.means.inside;
+    go_in = d.inside;
     types = (choose_parts p spot mark ty e a b h.types).typed_yes;
     duty = h.duty;
     room = omega (arith, test_costs p.model (type_of e), ap (λ t. conversion_cost p.model t BoolType) ee, (longer_by ge.follows.added).1, (longer_by d.turned.added).1, h.room);
   }
 
-  pub pick_yes_value : {s x x2 y : Sym} {es xs : List Bit} {f : (ℕ → Bool) → Bool} (spot mark : Spot) (to : IntType) (e a b : Exp) (te ta : IntType) (go : Bit) → te ≡ type_of e → ta ≡ type_of a → Ready p W n at s (Expr spot (Some to) (Choose mark e a b))
-      → Values p W n at Used e s x es → Decided p (conversion_cost p.model te BoolType) x x2 go f → ValuesWhere p W n at go a x2 y xs → AreTyped p.model ta y.net xs × (length y.net < 2 ^ 28)
+  pub pick_yes_value : {s x x2 y : Sym} {es xs : List Bit} (spot mark : Spot) (to : IntType) (e a b : Exp) (te ta : IntType) (go : Bit) → te ≡ type_of e → ta ≡ type_of a → Ready p W n at s (Expr spot (Some to) (Choose mark e a b))
+      → Values p W n at Used e s x es → IsBranched mark te x x2 go → ValuesWhere p W n at go a x2 y xs → AreTyped p.model ta y.net xs × (length y.net < 2 ^ 28)
   pick_yes_value spot mark to e a b te ta go ee ea h ge d ga =
       let q = choose_parts p spot mark (Some to) e a b h.types in
       let arm = arms_have p.model to (type_if a) (type_if b) q.arms in (
@@ -407,20 +426,20 @@ module _ (p : Program) (W : Mode) (n : ℕ) (at : Around) where
         omega (arith, test_costs p.model (type_of e), ap (λ t. conversion_cost p.model t BoolType) ee, (longer_by ge.follows.added).1, (longer_by d.turned.added).1, (longer_by ga.follows.added).1, h.room),
       )
 
-  pub pick_no : {s x x2 y y2 : Sym} {es xs cs : List Bit} {f : (ℕ → Bool) → Bool} {g : (ℕ → Bool) → ℤ} (spot mark : Spot) (to : IntType) (e a b : Exp) (te ta : IntType) (go other : Bit) → te ≡ type_of e → ta ≡ type_of a → other ≡ opposite go
-      → Ready p W n at s (Expr spot (Some to) (Choose mark e a b)) → Values p W n at Used e s x es → Decided p (conversion_cost p.model te BoolType) x x2 go f → ValuesWhere p W n at go a x2 y xs
+  pub pick_no : {s x x2 y y2 : Sym} {es xs cs : List Bit} {g : (ℕ → Bool) → ℤ} (spot mark : Spot) (to : IntType) (e a b : Exp) (te ta : IntType) (go other : Bit) → te ≡ type_of e → ta ≡ type_of a → other ≡ opposite go
+      → Ready p W n at s (Expr spot (Some to) (Choose mark e a b)) → Values p W n at Used e s x es → IsBranched mark te x x2 go → ValuesWhere p W n at go a x2 y xs
       → Reckoned p (conversion_cost p.model ta to) y y2 to cs g → ReadyWhere p W n at other y2 b
   pick_no {y2 = y2} spot mark to e a b te ta go other ee ea eo h ge d ga r = record {
     fits = r.turned.fits;
-    go_in = kept_in y2.net false go other eo (in_added r.turned.added go (in_added ga.follows.added go d.means.inside));
+    go_in = kept_in y2.net false go other eo (in_added r.turned.added go (in_added ga.follows.added go d.inside));
     types = (choose_parts p spot mark (Some to) e a b h.types).typed_no;
     duty = h.duty;
     room =
         omega (arith, test_costs p.model (type_of e), ap (λ t. conversion_cost p.model t BoolType) ee, conversion_costs p.model (type_of a) to, ap (λ t. conversion_cost p.model t to) ea, (longer_by ge.follows.added).1, (longer_by d.turned.added).1, (longer_by ga.follows.added).1, (longer_by r.turned.added).1, h.room);
   }
 
-  pub pick_no_value : {s x x2 y y2 z : Sym} {es xs cs ys : List Bit} {f : (ℕ → Bool) → Bool} {g : (ℕ → Bool) → ℤ} (spot mark : Spot) (to : IntType) (e a b : Exp) (te ta tb : IntType) (go other : Bit) → te ≡ type_of e → ta ≡ type_of a → tb ≡ type_of b
-      → Ready p W n at s (Expr spot (Some to) (Choose mark e a b)) → Values p W n at Used e s x es → Decided p (conversion_cost p.model te BoolType) x x2 go f → ValuesWhere p W n at go a x2 y xs
+  pub pick_no_value : {s x x2 y y2 z : Sym} {es xs cs ys : List Bit} {g : (ℕ → Bool) → ℤ} (spot mark : Spot) (to : IntType) (e a b : Exp) (te ta tb : IntType) (go other : Bit) → te ≡ type_of e → ta ≡ type_of a → tb ≡ type_of b
+      → Ready p W n at s (Expr spot (Some to) (Choose mark e a b)) → Values p W n at Used e s x es → IsBranched mark te x x2 go → ValuesWhere p W n at go a x2 y xs
       → Reckoned p (conversion_cost p.model ta to) y y2 to cs g → ValuesWhere p W n at other b y2 z ys → AreTyped p.model tb z.net ys × (length z.net + conversion_cost p.model (type_of b) to < 2 ^ 28)
   pick_no_value spot mark to e a b te ta tb go other ee ea eb h ge d ga r gb =
       let q = choose_parts p spot mark (Some to) e a b h.types in
@@ -441,7 +460,7 @@ module _ (p : Program) (W : Mode) (n : ℕ) (at : Around) where
   pub pick_step : {s x x2 x3 y y2 z z2 m : Sym} {es xs cs ys ds rs : List Bit} (j : ℕ) (spot mark : Spot) (to : IntType) (e a b : Exp) (te ta tb : IntType) (go other : Bit) → te ≡ type_of e → ta ≡ type_of a → tb ≡ type_of b
       → Ready p W n at s (Expr spot (Some to) (Choose mark e a b)) → Values p W n at Used e s x es
       → Decided p (conversion_cost p.model te BoolType) x x2 go (λ v. not (is_zero (typed p.model te v x.net es))) → other ≡ opposite go
-      → Turned p j 0 x2 x3 (λ v. telling W (Branch mark (Truth (not (is_zero (typed p.model te v x.net es)))))) → j ≤ 4
+      → Turned p j 0 x2 x3 (λ v. telling W (Branch mark (Truth (not (is_zero (typed p.model te v x.net es)))))) → j ≤ W.scale.test mark
       → ValuesWhere p W n at go a x3 y xs → Reckoned p (conversion_cost p.model ta to) y y2 to cs (λ v. fit p.model to (typed p.model ta v y.net xs))
       → ValuesWhere p W n at other b y2 z ys → Reckoned p (conversion_cost p.model tb to) z z2 to ds (λ v. fit p.model to (typed p.model tb v z.net ys))
       → Reckoned p (4 * width_of p.model to) z2 m to rs (λ v. cond (holds v z2.net go) (typed p.model to v z2.net cs) (typed p.model to v z2.net ds))
@@ -452,11 +471,11 @@ module _ (p : Program) (W : Mode) (n : ℕ) (at : Around) where
       (subst (λ t. Reckoned p (conversion_cost p.model t to) y y2 to cs (λ v. fit p.model to (typed p.model t v y.net xs))) ea r1) wb
       (subst (λ t. Reckoned p (conversion_cost p.model t to) z z2 to ds (λ v. fit p.model to (typed p.model t v z.net ys))) eb r2) r3
 
-  pub void_no : {s x x2 y : Sym} {es xs : List Bit} {f : (ℕ → Bool) → Bool} (spot mark : Spot) (e a b : Exp) (te : IntType) (go other : Bit) → te ≡ type_of e → other ≡ opposite go
-      → Ready p W n at s (Expr spot None (Choose mark e a b)) → Values p W n at Used e s x es → Decided p (conversion_cost p.model te BoolType) x x2 go f → ValuesWhere p W n at go a x2 y xs → ReadyWhere p W n at other y b
+  pub void_no : {s x x2 y : Sym} {es xs : List Bit} (spot mark : Spot) (e a b : Exp) (te : IntType) (go other : Bit) → te ≡ type_of e → other ≡ opposite go
+      → Ready p W n at s (Expr spot None (Choose mark e a b)) → Values p W n at Used e s x es → IsBranched mark te x x2 go → ValuesWhere p W n at go a x2 y xs → ReadyWhere p W n at other y b
   void_no {y = y} spot mark e a b te go other ee eo h ge d ga = record {
     fits = ga.follows.fits;
-    go_in = kept_in y.net false go other eo (in_added ga.follows.added go d.means.inside);
+    go_in = kept_in y.net false go other eo (in_added ga.follows.added go d.inside);
     types = (choose_parts p spot mark None e a b h.types).typed_no;
     duty = h.duty;
     room = omega (arith, test_costs p.model (type_of e), ap (λ t. conversion_cost p.model t BoolType) ee, (longer_by ge.follows.added).1, (longer_by d.turned.added).1, (longer_by ga.follows.added).1, h.room);
@@ -464,7 +483,7 @@ module _ (p : Program) (W : Mode) (n : ℕ) (at : Around) where
 
   pub void_step : {s x x2 x3 y z : Sym} {es xs ys : List Bit} (j : ℕ) (spot mark : Spot) (e a b : Exp) (te : IntType) (go other : Bit) → te ≡ type_of e → Ready p W n at s (Expr spot None (Choose mark e a b)) → Values p W n at Used e s x es
       → Decided p (conversion_cost p.model te BoolType) x x2 go (λ v. not (is_zero (typed p.model te v x.net es))) → other ≡ opposite go
-      → Turned p j 0 x2 x3 (λ v. telling W (Branch mark (Truth (not (is_zero (typed p.model te v x.net es)))))) → j ≤ 4
+      → Turned p j 0 x2 x3 (λ v. telling W (Branch mark (Truth (not (is_zero (typed p.model te v x.net es)))))) → j ≤ W.scale.test mark
       → ValuesWhere p W n at go a x3 y xs → ValuesWhere p W n at other b y z ys → Values p W n at Used (Expr spot None (Choose mark e a b)) s z ys
   void_step {s} {x} {x2} {x3} {y} {z} {es} j spot mark e a b te go other ee h ge d eo ev few wa wb =
       void_values j spot mark e a b go other h ge (subst (λ t. Decided p (conversion_cost p.model t BoolType) x x2 go (λ v. not (is_zero (typed p.model t v x.net es)))) ee d) eo

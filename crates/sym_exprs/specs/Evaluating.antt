@@ -22,8 +22,7 @@ use Rattle.sym_state.specs.declared.state.Around.{Around}
 use Rattle.sym_state.specs.Standing.{IsState}
 use Rattle.sym_state.specs.Following.{Deed, Follows, AreOf, IsNumber}
 use Rattle.sym_values.specs.Valuing.{where_of, IsDutyAt}
-use Rattle.sym_weight.specs.Sum.{expression}
-use Rattle.sym_weight.specs.Weight.{weighing, drawing, weight_in, bits_in}
+use Rattle.sym_scale.specs.Cost.{expression, nodes, bits}
 
 abbrev pub use_of : Bool → Use
 use_of true = Used
@@ -37,10 +36,10 @@ IsWanted Unused m ty net bits v z = Unit {0}
 -- calls at most n deep
 module _ (p : Program) (W : Mode) (n : ℕ) where
   abbrev pub weight_of : Exp → ℕ
-  weight_of e = expression p (weighing (weight_in p W.placed n)) e
+  weight_of e = expression p (nodes p W.scale n) e
 
   abbrev pub bits_of : Exp → ℕ
-  bits_of e = expression p (drawing (bits_in p n)) e
+  bits_of e = expression p (bits p W.scale n) e
 
   abbrev pub evaluated : Around → Use → Exp → Deed ℤ
   evaluated at want e v s = eval p (judged p W) (calls_in p (judged p W) n) (where_of at) want e s

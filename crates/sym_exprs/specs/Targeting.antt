@@ -17,8 +17,7 @@ use Rattle.sym_state.specs.declared.state.Around.{Around}
 use Rattle.sym_state.specs.Standing.{IsState}
 use Rattle.sym_state.specs.Following.{Deed, Follows}
 use Rattle.sym_values.specs.Valuing.{where_of, IsDutyAt}
-use Rattle.sym_weight.specs.Sum.{target}
-use Rattle.sym_weight.specs.Weight.{weighing, drawing, weight_in, bits_in}
+use Rattle.sym_scale.specs.Cost.{target, nodes, bits}
 
 -- the cell under each input
 abbrev pub Keys : Type 0
@@ -36,10 +35,10 @@ module _ (p : Program) (W : Mode) where
   -- calls at most n deep
   module _ (n : ℕ) where
     abbrev pub weight_of_target : Exp → ℕ
-    weight_of_target a = target p (weighing (weight_in p W.placed n)) a
+    weight_of_target a = target p (nodes p W.scale n) a
 
     abbrev pub bits_of_target : Exp → ℕ
-    bits_of_target a = target p (drawing (bits_in p n)) a
+    bits_of_target a = target p (bits p W.scale n) a
 
     abbrev pub targeted : Around → Exp → Deed Key
     targeted at a v s = meaning.target p (judged p W) (calls_in p (judged p W) n) (where_of at) a s

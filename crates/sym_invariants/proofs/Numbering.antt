@@ -9,8 +9,8 @@ use Rattle.c_meaning.specs.Duties.{is_less, same_duty, number_among}
 use Rattle.c_duties.specs.Ordered.{AreInOrder}
 use Rattle.c_duties.proofs.Order.{duties_ordered}
 use Rattle.c_duties.proofs.Numbers.{same_duties}
-use Rattle.sym_invariants.specs.Walking.{program_of, invariants_of, IsWalk}
-use Rattle.sym_invariants.specs.declared.walk.Walk.{Walk}
+use Rattle.sym_invariants.specs.Obliged.{program_of, invariants_of, IsObliged}
+use Rattle.sym_invariants.specs.declared.obliged.Obliged.{Obliged}
 
 pub either : (b : Bool) → (b ≡ true → ⊥) → b ≡ false
 either true f = absurd (f refl)
@@ -72,6 +72,6 @@ module _ (ds : List Duty) (rise : IsSortedBy is_less ds) where
       let same : get_or ds (i + k) x ≡ get_or (drop i ds) k z = get_or_default ds (i + k) x z below ∙ sym (get_or-drop i ds k z) in
       past_differs (get_or (drop i ds) k z) (get_or ds i x) d h (subst (λ y. is_less y (get_or ds i x) ≡ false) same far))
 
--- the obligations of a walk rise
-pub rises : (w : Walk) → IsWalk w → AreInOrder (program_of w) (invariants_of w) → IsSortedBy is_less w.mode.duties.now
+-- the obligations rise
+pub rises : (w : Obliged) → IsObliged w → AreInOrder (program_of w) (invariants_of w) → IsSortedBy is_less w.mode.duties.now
 rises w h order = subst (IsSortedBy is_less) (sym h.duties) order.rise

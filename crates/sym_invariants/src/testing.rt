@@ -5,11 +5,11 @@ ghost use Rattle.c_meaning.specs.Duties.{Placed};
 ghost use Rattle.c_meaning.specs.Havoc.{stands};
 ghost use Rattle.sym_state.specs.Standing.{IsState};
 ghost use Rattle.c_meaning.specs.Placing.{IsInvariant, placed};
-ghost use Rattle.sym_invariants.specs.Walking.{program_of, invariants_of, Assumes, HasRoom, IsWalk, Tests};
+ghost use Rattle.sym_invariants.specs.Obliged.{program_of, invariants_of, Assumes, HasRoom, IsObliged, Tests};
 
 use crate::numbers::{has_invariants, number_of};
+use crate::obliged::Obliged;
 use crate::values::holds_bit;
-use crate::walk::Walk;
 use c_core::Spot;
 use c_duties::duties_are_in_order;
 use c_meaning::{Duty, DutyKind, PlacedInvariant};
@@ -26,7 +26,7 @@ fn is_at(x: &PlacedInvariant, at_loop: bool, spot: Spot) -> bool
 
 // One invariant is tested, if it stands there.
 fn test_one(
-    walk: &Walk,
+    obliged: &Obliged,
     sym: &mut Sym,
     at_loop: bool,
     spot: Spot,
@@ -34,87 +34,87 @@ fn test_one(
     number: u32,
     x: &PlacedInvariant,
 ) -> Result<(), OutOfMemory>
-    requires walk { IsWalk walk.now }
-    requires fits { IsState (program_of walk.now) sym.old }
-    requires good { IsInvariant (program_of walk.now) (placed x.now) }
-    requires room { HasRoom walk.now (placed x.now ∷ []) at_loop spot sym.old }
-    ensures { IfOk result (λ r. Tests walk.now number (placed x.now ∷ []) at_loop spot kind sym.old sym.new) }
+    requires obliged { IsObliged obliged.now }
+    requires fits { IsState (program_of obliged.now) sym.old }
+    requires good { IsInvariant (program_of obliged.now) (placed x.now) }
+    requires room { HasRoom obliged.now (placed x.now ∷ []) at_loop spot sym.old }
+    ensures { IfOk result (λ r. Tests obliged.now number (placed x.now ∷ []) at_loop spot kind sym.old sym.new) }
 {
     if !is_at(x, at_loop, spot) {
         return Ok(());
     }
-    let holds = holds_bit(walk.alloc, walk.program, sym, &x.test)?;
+    let holds = holds_bit(obliged.alloc, obliged.program, sym, &x.test)?;
     let duty = Duty {
         spot,
         kind,
         invariant: Some(number),
     };
     duties_are_in_order();
-    let failed = number_of(walk.mode.duties, &duty);
-    assure(sym, walk.program, failed, holds)?;
+    let failed = number_of(obliged.mode.duties, &duty);
+    assure(sym, obliged.program, failed, holds)?;
     Ok(())
 }
 
 // One invariant is assumed, if it stands there.
 fn assume_one(
-    walk: &Walk,
+    obliged: &Obliged,
     sym: &mut Sym,
     spot: Spot,
     x: &PlacedInvariant,
 ) -> Result<(), OutOfMemory>
-    requires walk { IsWalk walk.now }
-    requires fits { IsState (program_of walk.now) sym.old }
-    requires good { IsInvariant (program_of walk.now) (placed x.now) }
-    requires room { HasRoom walk.now (placed x.now ∷ []) true spot sym.old }
-    ensures { IfOk result (λ r. Assumes walk.now (placed x.now ∷ []) spot sym.old sym.new) }
+    requires obliged { IsObliged obliged.now }
+    requires fits { IsState (program_of obliged.now) sym.old }
+    requires good { IsInvariant (program_of obliged.now) (placed x.now) }
+    requires room { HasRoom obliged.now (placed x.now ∷ []) true spot sym.old }
+    ensures { IfOk result (λ r. Assumes obliged.now (placed x.now ∷ []) spot sym.old sym.new) }
 {
     if !is_at(x, true, spot) {
         return Ok(());
     }
-    let holds = holds_bit(walk.alloc, walk.program, sym, &x.test)?;
-    assume(sym, walk.program, holds)?;
+    let holds = holds_bit(obliged.alloc, obliged.program, sym, &x.test)?;
+    assume(sym, obliged.program, holds)?;
     Ok(())
 }
 
 /// The invariants of a loop (true) or a statement (false) at a place are tested in turn: a run fails the obligation of
 /// the first that doesn't hold.
 pub fn test_all(
-    walk: &Walk,
+    obliged: &Obliged,
     sym: &mut Sym,
     at_loop: bool,
     spot: Spot,
     kind: DutyKind,
 ) -> Result<(), OutOfMemory>
-    requires walk { IsWalk walk.now }
-    requires fits { IsState (program_of walk.now) sym.old }
-    requires room { HasRoom walk.now (invariants_of walk.now) at_loop spot sym.old }
-    ensures { IfOk result (λ r. Tests walk.now 0 (invariants_of walk.now) at_loop spot kind sym.old sym.new) }
+    requires obliged { IsObliged obliged.now }
+    requires fits { IsState (program_of obliged.now) sym.old }
+    requires room { HasRoom obliged.now (invariants_of obliged.now) at_loop spot sym.old }
+    ensures { IfOk result (λ r. Tests obliged.now 0 (invariants_of obliged.now) at_loop spot kind sym.old sym.new) }
 {
-    if !has_invariants(walk, at_loop, spot) {
+    if !has_invariants(obliged, at_loop, spot) {
         return Ok(());
     }
-    let invariants = walk.mode.invariants;
+    let invariants = obliged.mode.invariants;
     let mut number = 0;
     for x in invariants {
-        test_one(walk, sym, at_loop, spot, kind, number, x)?;
+        test_one(obliged, sym, at_loop, spot, kind, number, x)?;
         number += 1;
     }
     Ok(())
 }
 
 /// A run goes on only where all invariants of a loop at a place hold; else it is dismissed.
-pub fn assume_all(walk: &Walk, sym: &mut Sym, spot: Spot) -> Result<(), OutOfMemory>
-    requires walk { IsWalk walk.now }
-    requires fits { IsState (program_of walk.now) sym.old }
-    requires room { HasRoom walk.now (invariants_of walk.now) true spot sym.old }
-    ensures { IfOk result (λ r. Assumes walk.now (invariants_of walk.now) spot sym.old sym.new) }
+pub fn assume_all(obliged: &Obliged, sym: &mut Sym, spot: Spot) -> Result<(), OutOfMemory>
+    requires obliged { IsObliged obliged.now }
+    requires fits { IsState (program_of obliged.now) sym.old }
+    requires room { HasRoom obliged.now (invariants_of obliged.now) true spot sym.old }
+    ensures { IfOk result (λ r. Assumes obliged.now (invariants_of obliged.now) spot sym.old sym.new) }
 {
-    if !has_invariants(walk, true, spot) {
+    if !has_invariants(obliged, true, spot) {
         return Ok(());
     }
-    let invariants = walk.mode.invariants;
+    let invariants = obliged.mode.invariants;
     for x in invariants {
-        assume_one(walk, sym, spot, x)?;
+        assume_one(obliged, sym, spot, x)?;
     }
     Ok(())
 }

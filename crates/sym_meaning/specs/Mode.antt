@@ -11,8 +11,8 @@ use Rattle.c_meaning.specs.declared.run.Event.{Event}
 use Rattle.c_meaning.specs.Cells.{Cell}
 use Rattle.c_meaning.specs.Meaning.{Where, Loop}
 use Rattle.c_meaning.specs.Acts.{Res, Flow}
-use Rattle.c_meaning.specs.Duties.{Placed}
 use Rattle.c_meaning.specs.Havoc.{Stopped}
+use Rattle.sym_scale.specs.Scale.{Scale}
 
 -- the live cells, the values left to draw, the draws made, which numbers of segments are completed
 pub record JudgedState : Type 0 where
@@ -40,8 +40,8 @@ Turn = Bool → Act Flow
 pub record Mode : Type 0 where
   -- what runs may fail at, each with a bit of the circuit
   pub duties : List Duty
-  -- the invariants of the program, in witness order
-  pub placed : List Placed
+  -- what it adds to the weights of a program's parts
+  pub scale : Scale
   -- what a violation in a full expression fails at
   pub duty_at : Where → Duty
   -- whether a violation fails there; else it ends the run and nothing fails

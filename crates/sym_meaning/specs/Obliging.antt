@@ -14,6 +14,7 @@ use Rattle.c_meaning.specs.Havoc.{Stopped, Passes, Dismisses, Fails, Left, stand
 use Rattle.c_meaning.specs.Value.{holds}
 use Rattle.c_meaning.specs.Changed.{changed_by}
 use Rattle.c_meaning.specs.Duties.{Placed, duty, Duties}
+use Rattle.sym_scale.specs.Obliged.{obliged}
 use Rattle.sym_meaning.specs.Mode.{JudgedState, cells_judged, with_cells_judged, Act, Mode}
 use Rattle.sym_meaning.specs.Judged.{draw, judged_in}
 
@@ -76,7 +77,7 @@ module _ (p : Program) (I : List Placed) where
   abbrev pub obliging : Mode
   obliging = record {
     duties = Duties p I;
-    placed = I;
+    scale = obliged p I;
     duty_at = λ at. duty at.full PropertyKind None;
     counts = λ e cells completed. true;
     here = λ spot. test_from 0 I false spot Location;

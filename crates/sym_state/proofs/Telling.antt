@@ -13,6 +13,7 @@ use Rattle.sym_state.specs.Following.{left_of, Deed, Came, Follows}
 use Rattle.sym_state.specs.Telling.{telling}
 use Rattle.sym_state.proofs.Nets.{unchanged}
 use Rattle.sym_state.proofs.Composed.{turned_follows}
+use Rattle.sym_state.proofs.Turning.{turned_as}
 
 module _ (p : Program) (W : Mode) where
   untold : (e : Event) (a : Stand) → a.live ≡ false → telling W e a ≡ a
@@ -44,6 +45,10 @@ module _ (p : Program) (W : Mode) where
     moves = x.moves;
     does = λ v here vs rest t. came_map (S v) (T v) (h v) (stand p v b) rest (m v (left_of (stand p v a) vs)) (f v) (x.does v here vs rest t);
   }
+
+  -- the same event by another name
+  pub told_as : {k : ℕ} {a b : Sym} {e : (ℕ → Bool) → Event} (f : (ℕ → Bool) → Event) → Turned p k 0 a b (λ v. telling W (e v)) → ((v : ℕ → Bool) → e v ≡ f v) → Turned p k 0 a b (λ v. telling W (f v))
+  told_as {a = a} f x h = turned_as p (λ v. telling W (f v)) x (λ v. ap (λ e. telling W e (stand p v a)) (h v))
 
   -- where a mode follows no events, an event leaves each state as it is
   pub untold_turned : ((e : Event) (cells : List Cell) (completed : List Bool) → W.next e cells completed ≡ completed) → (a : Sym) (e : (ℕ → Bool) → Event) → IsState p a → Turned p 0 0 a a (λ v. telling W (e v))

@@ -7,9 +7,9 @@ use Rattle.c_core.specs.Tree.{Program}
 use Rattle.circuits.specs.declared.net.Bit.{Bit}
 use Rattle.circuits.specs.declared.net.NetNode.{NetNode}
 use Rattle.circuits.specs.Net.{holds, Grown, Means, IsIn, opposite}
-use Rattle.circuits.proofs.Nets.{own, opp, and_of, means_by}
+use Rattle.circuits.proofs.Nets.{own, opp, and_of, means_by, grown_then}
 use Rattle.sym_state.specs.declared.state.Sym.{Sym}
-use Rattle.sym_state.specs.Standing.{Stand, stand, IsState, Turned, stopped, failed, marked, marking, with_live}
+use Rattle.sym_state.specs.Standing.{Stand, stand, IsState, Turned, stopped, failed, violated, marked, marking, with_live}
 use Rattle.sym_state.proofs.Nets.{added_of, added_then, unchanged, holds_added, state_grown, stand_grown}
 
 module _ (p : Program) where
@@ -110,4 +110,21 @@ module _ (p : Program) where
         is = λ v.
             y.is v ∙ ap (λ z. stopped z (stand p v t)) (holds_added one v bad b) ∙ ap (stopped (holds v s.net bad)) (x.is v)
             ∙ ap₂ (λ l z. stopped (holds v s.net bad) (marking at l z)) (m.is v) (stand_grown p v g h);
+      }
+
+  -- the same, where a bit says whether it counts
+  pub violate_turned : (s t n : Sym) (one net : List NetNode) (bad counts both here : Bit) (at : ℕ) → IsState p s → IsIn s.net bad → Grown 1 s.net one → Means one both (λ v. holds v s.net bad && holds v s.net counts)
+      → Grown 1 one net → Means net here (λ v. holds v one s.live && holds v one both)
+      → Turned p 1 0 (record s { net = net }) t (λ v. marking at (holds v net here)) → Turned p 1 0 t n (λ v. stopped (holds v t.net bad)) → Turned p 4 0 s n (λ v. violated at (holds v s.net bad) (holds v s.net counts))
+  violate_turned s t n one net bad counts both here at h b g m k q x y =
+      let grown = grown_then 1 1 2 s.net one net g k (omega arith) in
+      let first = added_then 3 0 (added_of grown) x.added (omega arith) (omega arith) in
+      record {
+        fits = y.fits;
+        added = added_then 4 0 first y.added (omega arith) (omega arith);
+        level = y.level ∙ x.level;
+        result = y.result ∙ x.result;
+        is = λ v.
+            y.is v ∙ ap (λ z. stopped z (stand p v t)) (holds_added first v bad b) ∙ ap (stopped (holds v s.net bad)) (x.is v)
+            ∙ ap₂ (λ l z. stopped (holds v s.net bad) (marking at l z)) (q.is v ∙ ap₂ (λ l c. l && c) (holds_added (added_of g) v s.live h.live) (m.is v)) (stand_grown p v grown h);
       }

@@ -167,6 +167,10 @@ marking k b s = record s { failing = marked k b s.failing }
 abbrev pub failed : ℕ → Bool → Stand → Stand
 failed k b s = record s { live = s.live && not b; failing = marked k (s.live && b) s.failing }
 
+-- the same, where the failure counts where c holds; the run ends all the same
+abbrev pub violated : ℕ → Bool → Bool → Stand → Stand
+violated k b c s = record s { live = s.live && not b; failing = marked k (s.live && (b && c)) s.failing }
+
 -- the run is here as b says
 abbrev pub with_live : Bool → Stand → Stand
 with_live b s = record s { live = b }

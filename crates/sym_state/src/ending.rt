@@ -2,7 +2,7 @@
 ghost use Rattle.std.specs.Prelude.{◌<◌, ◌^◌, ◌&&◌, ◌||◌, IfOk, length};
 ghost use Rattle.c_core.specs.View.{program_view};
 ghost use Rattle.circuits.specs.Net.{holds, IsIn};
-ghost use Rattle.sym_state.specs.Standing.{IsState, Turned, stopped, marking, failed, with_live};
+ghost use Rattle.sym_state.specs.Standing.{IsState, Turned, stopped, marking, failed, violated, with_live};
 
 use crate::state::Sym;
 use c_core::Program;
@@ -75,6 +75,29 @@ pub fn fail(sym: &mut Sym, program: &Program, duty: u32, bad: Bit) -> Result<(),
         (λ v. failed duty (holds v sym.old.net bad))) }
 {
     let here = sym.net.and(sym.live, bad)?;
+    mark(sym, program, duty, here)?;
+    stop(sym, program, bad)?;
+    Ok(())
+}
+
+/// A run that is here ends where a bit is true. It fails the obligation of a number, from 0 on, where another bit says
+/// that this counts.
+pub fn violate(
+    sym: &mut Sym,
+    program: &Program,
+    duty: u32,
+    bad: Bit,
+    counts: Bit,
+) -> Result<(), OutOfMemory>
+    requires fits { IsState (program_view program.now) sym.old }
+    requires bad_in { IsIn sym.old.net bad }
+    requires counts_in { IsIn sym.old.net counts }
+    requires room { length sym.old.net < 2 ^ 27 }
+    ensures { IfOk result (λ r. Turned (program_view program.now) 4 0 sym.old sym.new
+        (λ v. violated duty (holds v sym.old.net bad) (holds v sym.old.net counts))) }
+{
+    let both = sym.net.and(bad, counts)?;
+    let here = sym.net.and(sym.live, both)?;
     mark(sym, program, duty, here)?;
     stop(sym, program, bad)?;
     Ok(())

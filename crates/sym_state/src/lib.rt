@@ -10,5 +10,5 @@ mod state;
 
 pub use cells::{look, place_of, write};
 pub use drawing::draw;
-pub use ending::{fail, join, narrow, stop};
+pub use ending::{fail, join, narrow, stop, violate};
 pub use state::{Around, DrawSite, Sym, SymCell};

@@ -14,13 +14,13 @@ use Rattle.circuits.specs.declared.net.Bit.{Bit}
 use Rattle.circuits.specs.Net.{holds, Means}
 use Rattle.sym_state.specs.declared.state.Sym.{Sym}
 use Rattle.sym_state.specs.declared.state.Around.{Around}
-use Rattle.sym_state.specs.Standing.{Stand, stand, Turned, marked, stopped, failed, drawing}
+use Rattle.sym_state.specs.Standing.{Stand, stand, Turned, marked, stopped, violated, drawing}
 use Rattle.sym_state.specs.Following.{left_of, Taken, Came}
 use Rattle.sym_state.specs.Drawn.{draw_of, IsDrawn}
 use Rattle.sym_state.proofs.Composed.{turned_follows, same_kept}
-use Rattle.sym_values.specs.Valuing.{where_of, IsDutyAt, Gives}
+use Rattle.sym_values.specs.Valuing.{where_of, IsDutyAt, CountsWhere, Gives}
 use Rattle.sym_values.specs.Storing.{input_of, reach_of, end_of, Ends}
-use Rattle.sym_values.proofs.Judging.{and_no, marked_none, marked_one, violation_marks}
+use Rattle.sym_values.proofs.Judging.{and_no, marked_none, violation_marks}
 
 undrawn : (d : Draw) (a : Stand) → a.live ≡ false → drawing d a ≡ a
 undrawn d a h = λ i. record a { draws = (ap (λ l. a.draws ++ cond l (d ∷ []) []) h ∙ append-nil a.draws) i }
@@ -62,28 +62,28 @@ module _ (p : Program) (W : Mode) (s n : Sym) (b : Bit) (m : Means s.net b (λ v
       (λ v here rest. (record { live = stops v (stand p v s).live; broken = here.broken; again = here.again; gave = here.gave; failing = here.failing }, refl, refl))
 
   -- where a call of `reach_error` isn't the violation, it ends the run
-  pub reach_ends : (at : Around) (site : Site) → p.property ≡ NoOverflow → Turned p 1 0 s n (λ v. stopped (holds v s.net b)) → Ends p W 3 s n (reach_of p W at site)
+  pub reach_ends : (at : Around) (site : Site) → p.property ≡ NoOverflow → Turned p 1 0 s n (λ v. stopped (holds v s.net b)) → Ends p W 4 s n (reach_of p W at site)
   reach_ends at site e x =
       turned_follows p W.duties (λ v. stopped (holds v s.net b)) (record { fits = x.fits; added = record { more = x.added.more; is = x.added.is; gates = omega (arith, x.added.gates); feeds = x.added.feeds; few = omega (arith, x.added.few) }; level = x.level; result = x.result; is = x.is }) (λ v. refl) (λ v d. dead_stop v (stand p v s) d)
       (λ v here rest.
       subst (λ y. Came W.duties (λ z. Unit {0}) (stopped (holds v s.net b) (stand p v s)) rest (reached p W y (where_of at) site (left_of (stand p v s) rest))) (sym e)
       (record { live = stops v (stand p v s).live; broken = here.broken; again = here.again; gave = here.gave; failing = here.failing }, refl, refl))
 
-  -- where it is, the run fails its obligation
-  pub reach_fails : (at : Around) (site : Site) → IsDutyAt p W at → p.property ≡ UnreachCall → Turned p 3 0 s n (λ v. failed at.duty (holds v s.net b)) → Ends p W 3 s n (reach_of p W at site)
-  reach_fails at site duty_at e x =
-      turned_follows p W.duties (λ v. failed at.duty (holds v s.net b)) x (λ v. refl)
-      (λ v d i. record (stand p v s) { live = (ap (λ l. l && not (holds v s.net b)) d ∙ sym d) i; failing = (ap (λ l. marked at.duty (l && holds v s.net b) (stand p v s).failing) d ∙ marked_none at.duty (stand p v s).failing) i })
+  -- where it is, the run fails its obligation, if that counts
+  pub reach_fails : (at : Around) (site : Site) (c : Bit) → IsDutyAt p W at → CountsWhere p W at (Some site.spot) s c → p.property ≡ UnreachCall → Turned p 4 0 s n (λ v. violated at.duty (holds v s.net b) (holds v s.net c))
+      → Ends p W 4 s n (reach_of p W at site)
+  reach_fails at site c duty_at q e x =
+      turned_follows p W.duties (λ v. violated at.duty (holds v s.net b) (holds v s.net c)) x (λ v. refl)
+      (λ v d i. record (stand p v s) { live = (ap (λ l. l && not (holds v s.net b)) d ∙ sym d) i; failing = (ap (λ l. marked at.duty (l && (holds v s.net b && holds v s.net c)) (stand p v s).failing) d ∙ marked_none at.duty (stand p v s).failing) i })
       (λ v here rest.
-      subst (λ y. Came W.duties (λ z. Unit {0}) (failed at.duty (holds v s.net b) (stand p v s)) rest (reached p W y (where_of at) site (left_of (stand p v s) rest))) (sym e) (
+      let a = stand p v s in
+      subst (λ y. Came W.duties (λ z. Unit {0}) (violated at.duty (holds v s.net b) (holds v s.net c) a) rest (reached p W y (where_of at) site (left_of a rest))) (sym e) (
         record {
-          live = stops v (stand p v s).live;
+          live = stops v a.live;
           broken = here.broken;
           again = here.again;
           gave = here.gave;
-          failing =
-              ap₂ (λ l t. marked at.duty (l && t) (stand p v s).failing) here.live (m.is v) ∙ ap (marked at.duty true) here.failing ∙ marked_one at.duty (length W.duties)
-              ∙ violation_marks p W at duty_at (Some site.spot) (stand p v s);
+          failing = ap (λ t. marked at.duty (a.live && (t && holds v s.net c)) a.failing) (m.is v) ∙ violation_marks p W at duty_at (Some site.spot) (holds v s.net c) a (q.is v) here.live here.failing;
         },
         refl,
         refl,

@@ -5,14 +5,15 @@ ghost use Rattle.c_core.specs.View.{program_view};
 ghost use Rattle.c_meaning.specs.Meaning.{Site};
 ghost use Rattle.sym_meaning.specs.Mode.{Mode};
 ghost use Rattle.sym_state.specs.Standing.{IsState};
-ghost use Rattle.sym_values.specs.Valuing.{IsDutyAt, Gives};
+ghost use Rattle.circuits.specs.Net.{IsIn};
+ghost use Rattle.sym_values.specs.Valuing.{IsDutyAt, CountsWhere, Gives};
 ghost use Rattle.sym_values.specs.Storing.{input_of, reach_of, end_of, Ends};
 
 use c_core::{IntType, Program, Property, Spot};
 use c_meaning::DrawKind;
-use circuits::Bits;
+use circuits::{Bit, Bits};
 use std::alloc::Global;
-use sym_state::{Around, Sym, draw, fail, stop};
+use sym_state::{Around, Sym, draw, stop, violate};
 use wv_base::OutOfMemory;
 
 /// An input call draws a value of its type.
@@ -45,17 +46,19 @@ pub fn end(sym: &mut Sym, program: &Program) -> Result<(), OutOfMemory>
     Ok(())
 }
 
-/// A call of `reach_error`: the violation, or where that is an overflow the end.
-pub fn reach(sym: &mut Sym, program: &Program, at: Around) -> Result<(), OutOfMemory>
+/// A call of `reach_error`: the violation, with a bit that says where it counts, or where that is an overflow the end.
+pub fn reach(sym: &mut Sym, program: &Program, at: Around, counts: Bit) -> Result<(), OutOfMemory>
     requires fits { IsState (program_view program.now) sym.old }
+    requires counts_in { IsIn sym.old.net counts }
     requires room { length sym.old.net < 2 ^ 27 }
     ensures { IfOk result (λ r. (W : Mode) (site : Site) → IsDutyAt (program_view program.now) W at
-        → Ends (program_view program.now) W 3 sym.old sym.new (reach_of (program_view program.now) W at site)) }
+        → CountsWhere (program_view program.now) W at (Some site.spot) sym.old counts
+        → Ends (program_view program.now) W 4 sym.old sym.new (reach_of (program_view program.now) W at site)) }
 {
     let always = sym.net.yes();
     match program.property {
         Property::UnreachCall => {
-            fail(sym, program, at.duty, always)?;
+            violate(sym, program, at.duty, always, counts)?;
             Ok(())
         }
         Property::NoOverflow => {

@@ -1,5 +1,5 @@
 // Operators.
-ghost use Rattle.std.specs.Prelude.{◌≡◌, ◌+◌, ◌<◌, ◌^◌, IfOk, IsFalse, List, Some, length};
+ghost use Rattle.std.specs.Prelude.{◌≡◌, ◌+◌, ◌<◌, ◌^◌, IfOk, IsFalse, List, None, Some, length};
 ghost use Rattle.c_core.specs.Types.{IsPromoted, promote_of};
 ghost use Rattle.c_core.specs.Operators as operators;
 ghost use Rattle.c_core.specs.View.{program_view};
@@ -8,14 +8,14 @@ ghost use Rattle.circuits.specs.Net.{holds, IsIn};
 ghost use Rattle.circuits.specs.Numbers.{AreTyped};
 ghost use Rattle.circuits.specs.Outcome.{binary_type, one_type};
 ghost use Rattle.sym_state.specs.Standing.{IsState, Turned};
-ghost use Rattle.sym_values.specs.Valuing.{judged, operated_cost, operated_one_cost, IsDutyAt, Gives, operated, operated_one};
+ghost use Rattle.sym_values.specs.Valuing.{judged, operated_cost, operated_one_cost, IsDutyAt, CountsWhere, Gives, operated, operated_one};
 
 use c_core::{
     BinOp, DataModel, IntType, Program, Property, Spot, UnOp, is_shift, promote, type_for,
 };
 use circuits::{Bit, Bits, apply_bits, convert_bits, one_bits};
 use std::alloc::Global;
-use sym_state::{Around, Sym, fail, stop};
+use sym_state::{Around, Sym, stop, violate};
 use wv_base::OutOfMemory;
 
 // The type of its right side.
@@ -33,19 +33,22 @@ fn end_runs(
     sym: &mut Sym,
     program: &Program,
     at: Around,
+    counts: Bit,
     overflow: Bit,
     undefined: Bit,
 ) -> Result<(), OutOfMemory>
     requires fits { IsState (program_view program.now) sym.old }
+    requires counts_in { IsIn sym.old.net counts }
     requires overflow_in { IsIn sym.old.net overflow }
     requires undefined_in { IsIn sym.old.net undefined }
     requires room { length sym.old.net < 2 ^ 27 }
-    ensures { IfOk result (λ r. Turned (program_view program.now) 4 0 sym.old sym.new
-        (λ v. judged program.now.property at.duty (holds v sym.old.net overflow) (holds v sym.old.net undefined))) }
+    ensures { IfOk result (λ r. Turned (program_view program.now) 5 0 sym.old sym.new
+        (λ v. judged program.now.property at.duty (holds v sym.old.net counts) (holds v sym.old.net overflow)
+        (holds v sym.old.net undefined))) }
 {
     match program.property {
         Property::NoOverflow => {
-            fail(sym, program, at.duty, overflow)?;
+            violate(sym, program, at.duty, overflow, counts)?;
             stop(sym, program, undefined)?;
             Ok(())
         }
@@ -56,12 +59,13 @@ fn end_runs(
     }
 }
 
-/// An operator of two numbers, whose sides are converted first.
+/// An operator of two numbers, whose sides are converted first; a bit says where a violation counts.
 pub fn operate(
     alloc: Global,
     program: &Program,
     sym: &mut Sym,
     at: Around,
+    counts: Bit,
     spot: Spot,
     op: BinOp,
     a: IntType,
@@ -70,10 +74,12 @@ pub fn operate(
     y: &Bits,
 ) -> Result<Bits, OutOfMemory>
     requires fits { IsState (program_view program.now) sym.old }
+    requires counts_in { IsIn sym.old.net counts }
     requires x_in { AreTyped program.now.model a sym.old.net x.now.bits }
     requires y_in { AreTyped program.now.model b sym.old.net y.now.bits }
     requires room { length sym.old.net + operated_cost program.now.model op a b < 2 ^ 27 }
     ensures { IfOk result (λ r. (W : Mode) → IsDutyAt (program_view program.now) W at
+        → CountsWhere (program_view program.now) W at None sym.old counts
         → Gives (program_view program.now) W (operated_cost program.now.model op a b) 0 sym.old sym.new
         (Some (binary_type op (operators.type_for program.now.model op a b))) r.bits
         (operated (program_view program.now) W at spot op a x.now.bits b y.now.bits sym.old)) }
@@ -84,24 +90,27 @@ pub fn operate(
     let u = convert_bits(alloc, &mut sym.net, model, a, ty, x)?;
     let w = convert_bits(alloc, &mut sym.net, model, b, right, y)?;
     let out = apply_bits(alloc, &mut sym.net, model, op, ty, &u, right, &w)?;
-    end_runs(sym, program, at, out.overflow, out.undefined)?;
+    end_runs(sym, program, at, counts, out.overflow, out.undefined)?;
     Ok(out.value)
 }
 
-/// An operator of one number, which is promoted first.
+/// An operator of one number, which is promoted first; a bit says where a violation counts.
 pub fn operate_one(
     alloc: Global,
     program: &Program,
     sym: &mut Sym,
     at: Around,
+    counts: Bit,
     op: UnOp,
     a: IntType,
     x: &Bits,
 ) -> Result<Bits, OutOfMemory>
     requires fits { IsState (program_view program.now) sym.old }
+    requires counts_in { IsIn sym.old.net counts }
     requires x_in { AreTyped program.now.model a sym.old.net x.now.bits }
     requires room { length sym.old.net + operated_one_cost program.now.model op a < 2 ^ 27 }
     ensures { IfOk result (λ r. (W : Mode) → IsDutyAt (program_view program.now) W at
+        → CountsWhere (program_view program.now) W at None sym.old counts
         → Gives (program_view program.now) W (operated_one_cost program.now.model op a) 0 sym.old sym.new
         (Some (one_type op (promote_of a))) r.bits
         (operated_one (program_view program.now) W at op a x.now.bits sym.old)) }
@@ -110,6 +119,6 @@ pub fn operate_one(
     let ty = promote(model, a);
     let u = convert_bits(alloc, &mut sym.net, model, a, ty, x)?;
     let out = one_bits(alloc, &mut sym.net, model, op, ty, &u)?;
-    end_runs(sym, program, at, out.overflow, out.undefined)?;
+    end_runs(sym, program, at, counts, out.overflow, out.undefined)?;
     Ok(out.value)
 }

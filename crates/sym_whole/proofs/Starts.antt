@@ -1,5 +1,6 @@
 -- The state from which each run sets out.
-use Rattle.std.proofs.Common.{◌≡◌, ℕ, zero, suc, ◌+◌, ◌<◌, Bool, true, false, cond, ℤ, pos, List, [], ◌∷◌, ◌++◌, length, map, drop, replicate, slice_get, unwrap_or, IsTrue, refl, sym, ◌∙◌, ap, subst, arith, append-nil, append_assoc, length-append}
+use Rattle.std.proofs.Common.{◌≡◌, ℕ, zero, suc, ◌+◌, ◌<◌, Bool, true, false, cond, ℤ, pos, List, [], ◌∷◌, ◌++◌, length, map, drop, replicate, slice_get, unwrap_or, IsTrue, refl, sym, ◌∙◌, ap, ap₂, subst, arith, append-nil, append_assoc, length-append}
+use Rattle.std.proofs.Math.ListN.{set}
 use Rattle.std.specs.List.{All}
 use Rattle.std.specs.declared.vec.Vec.{Vec}
 use Rattle.std.specs.declared.alloc.Global.{Global}
@@ -19,7 +20,7 @@ use Rattle.circuits.specs.declared.net.Bit.{Bit}
 use Rattle.circuits.specs.declared.net.NetNode.{NetNode}
 use Rattle.circuits.specs.declared.net.NetNode.TheVariants.{Constant}
 use Rattle.circuits.specs.declared.bits.Bits.{Bits}
-use Rattle.circuits.specs.Net.{holds, IsIn, Means, count_ands, count_inputs}
+use Rattle.circuits.specs.Net.{holds, opposite, IsIn, Means, count_ands, count_inputs}
 use Rattle.circuits.specs.Numbers.{AreIn, Reads}
 use Rattle.circuits.proofs.Nets.{count_ands-append, inputs-append}
 use Rattle.sym_state.specs.declared.state.Sym.{Sym}
@@ -29,8 +30,8 @@ use Rattle.sym_state.specs.Places.{key}
 use Rattle.sym_state.specs.Standing.{stand, cell_at, draws_at, IsCell, IsState, marks}
 use Rattle.sym_flow.specs.Ways.{Became}
 use Rattle.sym_flow.proofs.Around.{same_became}
-use Rattle.sym_flow.proofs.Becoming.{became_then, became_as}
-use Rattle.sym_whole.specs.Starting.{with_more, IsFirst}
+use Rattle.sym_flow.proofs.Becoming.{became_then, became_as, never_means}
+use Rattle.sym_whole.specs.Starting.{at_start, with_more, IsFirst}
 
 -- ---- lists of cells
 all_front : {A : Type 0} (P : A → Type 0) (xs ys : List A) → All P (xs ++ ys) → All P xs
@@ -40,6 +41,54 @@ all_front P (x ∷ xs) ys h = All-cons P x xs (All-head P x (xs ++ ys) h) (all_f
 all_back : {A : Type 0} (P : A → Type 0) (xs ys : List A) → All P (xs ++ ys) → All P ys
 all_back P [] ys h = h
 all_back P (x ∷ xs) ys h = all_back P xs ys (All-tail P x (xs ++ ys) h)
+
+-- ---- bits before all events
+all_dead : (net : List NetNode) (b : Bit) (n : ℕ) → IsIn net b → AreIn net (replicate n b)
+all_dead net b zero h = All-nil (λ b. IsIn net b)
+all_dead net b (suc n) h = All-cons (λ b. IsIn net b) b (replicate n b) h (all_dead net b n h)
+
+all_false : (f : Bit → Bool) (b : Bit) (n : ℕ) → f b ≡ false → map f (replicate n b) ≡ replicate n false
+all_false f b zero e = refl
+all_false f b (suc n) e = ap₂ (λ x xs. x ∷ xs) e (all_false f b n e)
+
+-- a first bit, and others
+abbrev first_bits : Bit → Bit → ℕ → List Bit
+first_bits here never zero = []
+first_bits here never (suc n) = here ∷ replicate n never
+
+none_marked : (f : Bit → Bool) (b : Bit) (n : ℕ) → f b ≡ false → map f (replicate n b) ≡ marks 0 n
+none_marked f b zero e = refl
+none_marked f b (suc n) e = ap (λ z. z ∷ map f (replicate n b)) e ∙ ap (λ z. false ∷ z) (none_marked f b n e)
+
+-- of this many segments none is completed: the first bit is true, and all others are false
+none_before : (net : List NetNode) (n : ℕ) (here never : Bit) (bits : List Bit) → Means net here (λ v. true) → Means net never (λ v. false) → bits ≡ first_bits here never n
+    → AreIn net bits × ((v : ℕ → Bool) → map (holds v net) bits ≡ at_start n)
+none_before net zero here never bits h m e = rw e (All-nil (λ b. IsIn net b), λ v. refl)
+none_before net (suc n) here never bits h m e =
+    rw e (
+      All-cons (λ b. IsIn net b) here (replicate n never) h.inside (all_dead net never n m.inside),
+      λ v. ap₂ (λ x xs. x ∷ xs) (h.is v) (all_false (holds v net) never n (m.is v)),
+    )
+
+no_bits : (here never : Bit) (n : ℕ) → n ≡ 0 → replicate n never ≡ first_bits here never n
+no_bits here never zero e = refl
+no_bits here never (suc n) e = absurd (omega (arith, e))
+
+first_set : (here never : Bit) (n : ℕ) → (n ≡ 0 → ⊥) → set (replicate n never) 0 here ≡ first_bits here never n
+first_set here never zero h = absurd (h refl)
+first_set here never (suc n) h = refl
+
+-- here: a bit that is always true; bits: as many as there are segments, all its opposite
+module _ (net : List NetNode) (n : ℕ) (here never : Bit) (bits : List Bit) (h : Means net here (λ v. true)) (o : never ≡ opposite here) (all : bits ≡ replicate n never) where
+  pub no_segment : n ≡ 0 → AreIn net bits × ((v : ℕ → Bool) → map (holds v net) bits ≡ at_start n)
+  no_segment e = none_before net n here never bits h (never_means net here never h o) (all ∙ no_bits here never n e)
+
+  pub some_segment : (n ≡ 0 → ⊥) → AreIn net (set bits 0 here) × ((v : ℕ → Bool) → map (holds v net) (set bits 0 here) ≡ at_start n)
+  some_segment e = none_before net n here never (set bits 0 here) h (never_means net here never h o) (ap (λ z. set z 0 here) all ∙ first_set here never n e)
+
+one_constant : (net : List NetNode) → net ≡ Constant true ∷ [] → (count_ands net ≡ 0) × (count_inputs net ≡ 0)
+unfolding count_ands count_inputs
+one_constant net e = (ap count_ands e, ap count_inputs e)
 
 module _ (p : Program) where
   -- each value fits
@@ -100,37 +149,25 @@ module _ (p : Program) where
       subst (λ z. Became p 0 _ _ (λ v. with_more z)) e g.is
 
   -- ---- the first state
-  all_dead : (net : List NetNode) (b : Bit) (n : ℕ) → IsIn net b → AreIn net (replicate n b)
-  all_dead net b zero h = All-nil (λ b. IsIn net b)
-  all_dead net b (suc n) h = All-cons (λ b. IsIn net b) b (replicate n b) h (all_dead net b n h)
-
-  none_marked : (f : Bit → Bool) (b : Bit) (n : ℕ) → f b ≡ false → map f (replicate n b) ≡ marks 0 n
-  none_marked f b zero e = refl
-  none_marked f b (suc n) e = ap (λ z. z ∷ map f (replicate n b)) e ∙ ap (λ z. false ∷ z) (none_marked f b n e)
-
-  one_constant : (net : List NetNode) → net ≡ Constant true ∷ [] → (count_ands net ≡ 0) × (count_inputs net ≡ 0)
-  unfolding count_ands count_inputs
-  one_constant net e = (ap count_ands e, ap count_inputs e)
-
   -- without cells
-  pub bare_state : (net : List NetNode) (here never : Bit) (given : Bits) (failing completed : Vec Bit Global) (cells : Vec SymCell Global) (sites : Vec DrawSite Global) (n : ℕ) → net ≡ Constant true ∷ [] → Means net here (λ v. true) → Means net never (λ v. false)
-      → Reads p.model Int net given.bits (λ v. pos 0) → failing.items ≡ replicate n never → completed.items ≡ [] → cells.items ≡ [] → sites.items ≡ []
+  pub bare_state : (net : List NetNode) (here never : Bit) (given : Bits) (failing completed : Vec Bit Global) (cells : Vec SymCell Global) (sites : Vec DrawSite Global) (n k : ℕ) → net ≡ Constant true ∷ [] → Means net here (λ v. true) → Means net never (λ v. false)
+      → Reads p.model Int net given.bits (λ v. pos 0) → failing.items ≡ replicate n never → AreIn net completed.items × ((v : ℕ → Bool) → map (holds v net) completed.items ≡ at_start k) → cells.items ≡ [] → sites.items ≡ []
       → IsState p (record { net = net; live = here; broken = never; again = never; gave = never; result = Int; given = given; failing = failing; completed = completed; cells = cells; sites = sites })
-  bare_state net here never given failing completed cells sites n e l m g f o c s = record {
+  bare_state net here never given failing completed cells sites n k e l m g f o c s = record {
     live = l.inside;
     broken = m.inside;
     again = m.inside;
     gave = m.inside;
     given = g.bits_in;
     failing = rw f (all_dead net never n m.inside);
-    completed = rw o (All-nil (λ b. IsIn net b));
+    completed = o.0;
     cells = rw c (All-nil (IsCell p net));
     sites = rw (s, (one_constant net e).1) refl;
   }
 
-  pub first_is : (s0 s : Sym) (n : ℕ) → s0.net ≡ Constant true ∷ [] → Means s0.net s0.live (λ v. true) → Means s0.net s0.broken (λ v. false) → s0.again ≡ s0.broken → s0.gave ≡ s0.broken → s0.failing.items ≡ replicate n s0.broken → s0.completed.items ≡ [] → s0.cells.items ≡ [] → s0.sites.items ≡ []
-      → Became p 0 s0 s (λ v. with_more (first_cells p)) → IsFirst p n s
-  first_is s0 s n e l m a g f o c d x =
+  pub first_is : (s0 s : Sym) (n k : ℕ) → s0.net ≡ Constant true ∷ [] → Means s0.net s0.live (λ v. true) → Means s0.net s0.broken (λ v. false) → s0.again ≡ s0.broken → s0.gave ≡ s0.broken → s0.failing.items ≡ replicate n s0.broken → AreIn s0.net s0.completed.items × ((v : ℕ → Bool) → map (holds v s0.net) s0.completed.items ≡ at_start k) → s0.cells.items ≡ [] → s0.sites.items ≡ []
+      → Became p 0 s0 s (λ v. with_more (first_cells p)) → IsFirst p n k s
+  first_is s0 s n k e l m a g f o c d x =
       let none = one_constant s0.net e in
       record {
         fits = x.fits;
@@ -144,7 +181,7 @@ module _ (p : Program) where
           };
           cells = λ v. ap (λ z. z.cells) (x.is v) ∙ ap (λ z. map (cell_at p v s0.net) z ++ first_cells p) c;
           draws = λ v. ap (λ z. z.draws) (x.is v) ∙ ap (draws_at p v s0.net) d;
-          completed = λ v. ap (λ z. z.completed) (x.is v) ∙ ap (map (holds v s0.net)) o;
+          completed = λ v. ap (λ z. z.completed) (x.is v) ∙ o.1 v;
         };
         no_gates = omega (arith, ap count_ands x.added.is, count_ands-append s0.net x.added.more, none.0, x.added.gates);
         no_inputs = omega (arith, ap count_inputs x.added.is, inputs-append s0.net x.added.more, none.1, x.added.feeds);

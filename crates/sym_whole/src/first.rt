@@ -1,19 +1,21 @@
 // The state from which each run sets out.
-ghost use Rattle.std.specs.Prelude.{◌≡◌, ◌∷◌, [], pos, cond, IfOk, IsTrue, slice_get, unwrap_or};
+ghost use Rattle.std.specs.Prelude.{◌≡◌, ◌∷◌, [], ℕ, Bool, pos, cond, map, IfOk, IsTrue, slice_get, unwrap_or};
 ghost use Rattle.c_core.specs.Types.{in_range};
 ghost use Rattle.c_core.specs.View.{program_view};
 ghost use Rattle.c_meaning.specs.Cells.{cells_from};
 ghost use Rattle.c_meaning.specs.Fitting.{FitCells};
 ghost use Rattle.c_meaning.specs.Objects as objects;
 ghost use Rattle.c_meaning.specs.Run.{first_cells, start_values as start_values_of};
+ghost use Rattle.circuits.specs.Net.{holds};
+ghost use Rattle.circuits.specs.Numbers.{AreIn};
 ghost use Rattle.sym_flow.specs.Ways.{Became};
 ghost use Rattle.sym_state.specs.Places.{key};
 ghost use Rattle.sym_state.specs.Standing.{IsState};
-ghost use Rattle.sym_whole.specs.Starting.{with_more, IsFirst};
+ghost use Rattle.sym_whole.specs.Starting.{at_start, with_more, IsFirst};
 
 use c_core::{IntType, Object, Program};
 use c_meaning::type_of_object;
-use circuits::{Net, const_bits, not};
+use circuits::{Bit, Net, const_bits, not};
 use std::alloc::Global;
 use sym_state::{Sym, SymCell};
 use wv_base::OutOfMemory;
@@ -131,15 +133,36 @@ fn start_objects(alloc: Global, program: &Program, sym: &mut Sym) -> Result<(), 
     Ok(())
 }
 
-/// Before a program of this many obligations: each run is there, with the cells of static objects.
-pub fn start(alloc: Global, program: &Program, duties: u32) -> Result<Sym, OutOfMemory>
-    ensures { IfOk result (λ s. IsFirst (program_view program.now) duties s) }
+// Of this many segments none is completed.
+fn none_completed(alloc: Global, net: &Net, segments: u32) -> Result<Vec<Bit>, OutOfMemory>
+    ensures { IfOk result (λ r. AreIn net.now r.items
+        × ((v : ℕ → Bool) → map (holds v net.now) r.items ≡ at_start segments)) }
+{
+    let here = net.yes();
+    let mut completed = vec![in alloc; not(here); segments as usize]?;
+    if segments == 0 {
+        return Ok(completed);
+    }
+    completed[0] = here;
+    Ok(completed)
+}
+
+/// Before a program of this many duties, with this many segments to follow: each run is there, with the cells of static
+/// objects.
+pub fn start(
+    alloc: Global,
+    program: &Program,
+    duties: u32,
+    segments: u32,
+) -> Result<Sym, OutOfMemory>
+    ensures { IfOk result (λ s. IsFirst (program_view program.now) duties segments s) }
 {
     let net = Net::new(alloc)?;
     let here = net.yes();
     let never = not(here);
     let given = const_bits(alloc, &net, program.model, IntType::Int, 0)?;
     let failing = vec![in alloc; never; duties as usize]?;
+    let completed = none_completed(alloc, &net, segments)?;
     let mut sym = Sym {
         net,
         live: here,
@@ -149,7 +172,7 @@ pub fn start(alloc: Global, program: &Program, duties: u32) -> Result<Sym, OutOf
         result: IntType::Int,
         given,
         failing,
-        completed: Vec::new(alloc),
+        completed,
         cells: Vec::new(alloc),
         sites: Vec::new(alloc),
     };

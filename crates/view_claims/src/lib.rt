@@ -3,6 +3,8 @@
 #![tactic(auto)]
 
 mod obligations;
+mod seeking;
+mod shell;
 mod verdict;
 mod violation;
 mod weeding;

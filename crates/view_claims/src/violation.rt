@@ -1,4 +1,5 @@
 // A violation sequence: a waypoint that isn't bound, or the given run.
+use crate::seeking::note_seeking;
 use c_core::{Program, Spot};
 use c_meaning::{Choices, End, Run};
 use flow_machine::run_machine;
@@ -160,15 +161,18 @@ fn explain_end(
     let tracker = tracked(alloc, files, index, bound, judged, steps)?;
     count_lines(alloc, &tracker, out)?;
     match judged.run.end {
-        End::Ended => explain_ended(
-            alloc,
-            index.program(),
-            segments_of(witness),
-            &judged.choices,
-            &judged.run,
-            &tracker,
-            out,
-        ),
+        End::Ended => {
+            explain_ended(
+                alloc,
+                index.program(),
+                segments_of(witness),
+                &judged.choices,
+                &judged.run,
+                &tracker,
+                out,
+            )?;
+            note_seeking(alloc, files, judged.run.unfixed, out)
+        }
         End::Undefined(spot) => explain_undefined(alloc, index.program(), judged, spot, out),
         End::Spent => explain_spent(alloc, &tracker, steps, out),
         End::Deep => explain_deep(alloc, &tracker, out),

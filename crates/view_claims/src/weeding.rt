@@ -1,52 +1,8 @@
 // The command that keeps of the invariants of a witness those that hold up together.
+use crate::shell::command_of;
 use std::alloc::Global;
 use view_text::{File, Files, Messages};
 use wv_base::OutOfMemory;
-
-/// Whether a shell takes a character of a word as it stands.
-fn is_plain(c: char) -> bool {
-    match c {
-        'a'..='z' | 'A'..='Z' | '0'..='9' => true,
-        '_' | '-' | '.' | '/' | '+' | ',' | ':' | '@' | '%' => true,
-        _ => false,
-    }
-}
-
-/// Whether a shell takes a name as one word as it stands.
-fn is_plain_word(name: &str) -> bool {
-    for c in name.chars() {
-        if !is_plain(c) {
-            return false;
-        }
-    }
-    !name.is_empty()
-}
-
-/// Appends a name between single quotes; one in the name stands outside of them, behind a backslash.
-fn push_quoted(out: &mut String, name: &str) -> Result<(), OutOfMemory> {
-    out.push_str("'")?;
-    for c in name.chars() {
-        if c == '\'' {
-            out.push_str("'\\''")?;
-        } else {
-            out.push(c)?;
-        }
-    }
-    out.push_str("'")?;
-    Ok(())
-}
-
-/// Appends an option and a name, as a shell reads them. A name that begins as an option does is tied to its own.
-fn push_option(out: &mut String, option: &str, name: &str) -> Result<(), OutOfMemory> {
-    out.push_str(option)?;
-    out.push_str(if name.starts_with("-") { "=" } else { " " })?;
-    if is_plain_word(name) {
-        out.push_str(name)?;
-        Ok(())
-    } else {
-        push_quoted(out, name)
-    }
-}
 
 /// The file that the command writes, which is none that it reads.
 fn written_file(files: &Files<'_>) -> &'static str {
@@ -63,10 +19,7 @@ pub fn note_weeding(
     files: &Files<'_>,
     out: &mut Messages,
 ) -> Result<(), OutOfMemory> {
-    let mut told = String::from_str(alloc, "witval weed")?;
-    push_option(&mut told, " --program", files.name(File::Program))?;
-    push_option(&mut told, " --property", files.name(File::Property))?;
-    push_option(&mut told, " --witness", files.name(File::Witness))?;
+    let mut told = command_of(alloc, "witval weed", files)?;
     let kept = written_file(files);
     write!(told, " > {kept} keeps the invariants that hold up together")?;
     out.note(File::Witness, None, told)

@@ -7,8 +7,8 @@ use Rattle.clap.specs.Kinds.{Kinds}
 use Rattle.clap.specs.ValueTests.{accepts}
 use Rattle.clap.specs.declared.builder.value_parser.ValueParser.TheVariants.{Unsigned}
 use Rattle.clap.proofs.ValueTestLemmas.{accepts-Accepts}
-use Rattle.wv_arguments.specs.Arguments.{command, most_conflicts, most_number}
-use Rattle.wv_arguments.specs.Words.{Budgets, Command, Label, Sources, Wanted, asked_by, asked_of, author_of, budgets_in, budgets_of, certify_of, command_in, conflicts_in, demo_of, label_in, made_number, mode_in, normalise_of, number_in, recheck_of, show_of, sources_in, steps_in, validate_of, wanted_as, weed_of}
+use Rattle.wv_arguments.specs.Arguments.{command, most_conflicts, most_number, most_turns}
+use Rattle.wv_arguments.specs.Words.{Budgets, Command, Label, Sources, Wanted, asked_by, asked_of, author_of, budgets_in, budgets_of, certify_of, command_in, conflicts_in, demo_of, label_in, made_number, mode_in, normalise_of, number_in, recheck_of, seek_of, show_of, sources_in, steps_in, turns_in, validate_of, wanted_as, weed_of}
 use Rattle.witval.specs.inside.Allowed.{AreAllowed, IsAllowed}
 
 abbrev IsWithin : ℕ → ℕ → ℕ → Type 0
@@ -70,6 +70,12 @@ weeded None n h = tt
 weeded (Some c) None h = tt
 weeded (Some c) (Some n) h = record { some = h.0; bounded = h.1 }
 
+searched : (c : Option Command) (k n : Option ℕ) → IfSome k (IsWithin 1 most_turns) → IfSome n (IsWithin 1 most_conflicts) → AreAllowed (seek_of c k n)
+searched None k n g h = tt
+searched (Some c) None n g h = tt
+searched (Some c) (Some k) None g h = tt
+searched (Some c) (Some k) (Some n) g h = record { turns = g.1; some = h.0; bounded = h.1 }
+
 either : (b : Bool) (x y : Option Wanted) → AreAllowed x → AreAllowed y → AreAllowed (if b then x else y)
 either true x y h k = h
 either false x y h k = k
@@ -83,7 +89,8 @@ of_mode mode rows =
     (either (bytes_eq mode (codes "certify")) _ _ (certified (command_in rows) (conflicts_in rows) (read 1 most_conflicts (one_of (codes "conflicts") rows)))
     (either (bytes_eq mode (codes "recheck")) _ _ (rechecked (command_in rows) (first_of (codes "certificate") rows))
     (either (bytes_eq mode (codes "author")) _ _ (authored (sources_in rows) (label_in rows) (steps_in rows))
-    (either (bytes_eq mode (codes "weed")) _ None (weeded (command_in rows) (conflicts_in rows) (read 1 most_conflicts (one_of (codes "conflicts") rows))) tt)))))))
+    (either (bytes_eq mode (codes "weed")) _ _ (weeded (command_in rows) (conflicts_in rows) (read 1 most_conflicts (one_of (codes "conflicts") rows)))
+    (either (bytes_eq mode (codes "seek")) _ None (searched (command_in rows) (turns_in rows) (conflicts_in rows) (read 1 most_turns (one_of (codes "bound") rows)) (read 1 most_conflicts (one_of (codes "conflicts") rows))) tt))))))))
 
 of_kinds : (kinds : Kinds) (rows : List Row) → AreAllowed (asked_of kinds rows).wanted
 of_kinds [] rows = of_mode (mode_in rows) rows

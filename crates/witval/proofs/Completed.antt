@@ -1,17 +1,17 @@
 -- Where files are told and no fault was counted, a right output is what the files call for.
 use Rattle.std.proofs.Common.{◌≡◌, ◌<◌, ◌-◌, ◌^◌, ℕ, List, Option, Some, IfSome, inl, inr, arith, subst}
-use Rattle.wv_arguments.specs.Words.{Asked, Command, Label, Sources, Wanted, Validate, Show, Normalise, Demo, Certify, Recheck, Author, Weed}
+use Rattle.wv_arguments.specs.Words.{Asked, Command, Label, Sources, Wanted, Validate, Show, Normalise, Demo, Certify, Recheck, Author, Weed, Seek}
 use Rattle.wv_base.specs.Causes.{Rose}
 use Rattle.wv_base.specs.Shelf.{ShelfState, Files, file_of}
 use Rattle.wv_base.specs.Sink.{SinkState, Gained}
 use Rattle.wv_report.specs.declared.reply.Reply.{Reply}
 use Rattle.wv_report.specs.declared.reply.Reply.TheVariants.{Verdict as Judged, Refused, ReadFault}
 use Rattle.witval.specs.Inputs.{OfBytes, OfFiles, OfOne, in_order}
-use Rattle.witval.specs.Purposes.{Purpose, Judging, Certifying, Weeding}
+use Rattle.witval.specs.Purposes.{Purpose, Judging, Certifying, Weeding, Seeking}
 use Rattle.witval.specs.Replies.{AuthorsOnBytes, OfFour, OnWitness, Right, RightAlone, RightAuthor, RightFor, RightOnBytes, RightOnFour, RightRecheck}
 use Rattle.witval.specs.Running.{CallsFor, CompleteFor, bytes_by, status_by}
 use Rattle.witval.specs.declared.output.Output.{Output}
-use Rattle.witval.specs.declared.output.Output.TheVariants.{Report, Canonical, Summary, Demo as Demonstrated, Certificate, Rechecked, Unviolated}
+use Rattle.witval.specs.declared.output.Output.TheVariants.{Report, Canonical, Summary, Demo as Demonstrated, Certificate, Rechecked, Unviolated, Searched}
 
 -- a count below its last value that stayed didn't rise
 abbrev Stayed : ShelfState → ShelfState → Type 0
@@ -53,6 +53,7 @@ rechecked command name old new files (Summary text) e stayed right = absurd righ
 rechecked command name old new files (Demonstrated demo) e stayed right = absurd right
 rechecked command name old new files (Certificate text) e stayed right = absurd right
 rechecked command name old new files (Unviolated why) e stayed right = absurd right
+rechecked command name old new files (Searched found) e stayed right = absurd right
 
 alone : (Within : Output → List ℕ → Type 0) (name : List ℕ) (old new : ShelfState) (files : Files) (output : Output) → old.files ≡ Some files → Stayed old new
     → RightAlone Within name old new output → OnWitness Within output (file_of files name)
@@ -65,6 +66,7 @@ alone Within name old new files (Demonstrated demo) e stayed right = absurd righ
 alone Within name old new files (Certificate text) e stayed right = absurd right
 alone Within name old new files (Rechecked answer) e stayed right = absurd right
 alone Within name old new files (Unviolated why) e stayed right = absurd right
+alone Within name old new files (Searched found) e stayed right = absurd right
 
 authored : (sources : Sources) (label : Label) (steps : ℕ) (old new : ShelfState) (files : Files) (output : Output) → old.files ≡ Some files → Stayed old new
     → RightAuthor sources label steps old new output → CallsFor (Author sources label steps) files output
@@ -75,6 +77,7 @@ authored sources label steps old new files (Report (Judged verdict)) e stayed ri
     at_three (in_order sources) old files (AuthorsOnBytes label steps sources.program (Report (Judged verdict))) e right
 authored sources label steps old new files (Canonical text) e stayed right = at_three (in_order sources) old files (AuthorsOnBytes label steps sources.program (Canonical text)) e right
 authored sources label steps old new files (Unviolated why) e stayed right = at_three (in_order sources) old files (AuthorsOnBytes label steps sources.program (Unviolated why)) e right
+authored sources label steps old new files (Searched found) e stayed right = absurd right
 authored sources label steps old new files (Summary text) e stayed right = absurd right
 authored sources label steps old new files (Demonstrated demo) e stayed right = absurd right
 authored sources label steps old new files (Certificate text) e stayed right = absurd right
@@ -88,6 +91,7 @@ called (Validate command budgets) old new files (Demonstrated demo) e stayed rig
 called (Validate command budgets) old new files (Certificate text) e stayed right = absurd right
 called (Validate command budgets) old new files (Rechecked answer) e stayed right = absurd right
 called (Validate command budgets) old new files (Unviolated why) e stayed right = absurd right
+called (Validate command budgets) old new files (Searched found) e stayed right = absurd right
 called (Show name) old new files output e stayed right = alone _ name old new files output e stayed right
 called (Normalise name) old new files output e stayed right = alone _ name old new files output e stayed right
 called (Demo number budgets) old new files output e stayed right = right
@@ -98,6 +102,7 @@ called (Certify command conflicts) old new files (Summary text) e stayed right =
 called (Certify command conflicts) old new files (Demonstrated demo) e stayed right = absurd right
 called (Certify command conflicts) old new files (Rechecked answer) e stayed right = absurd right
 called (Certify command conflicts) old new files (Unviolated why) e stayed right = absurd right
+called (Certify command conflicts) old new files (Searched found) e stayed right = absurd right
 called (Recheck command name) old new files output e stayed right = rechecked command name old new files output e stayed right
 called (Author sources label steps) old new files output e stayed right = authored sources label steps old new files output e stayed right
 called (Weed command conflicts) old new files (Report reply) e stayed right = replied command (Weeding conflicts) old new files reply e stayed right
@@ -107,6 +112,15 @@ called (Weed command conflicts) old new files (Demonstrated demo) e stayed right
 called (Weed command conflicts) old new files (Certificate text) e stayed right = absurd right
 called (Weed command conflicts) old new files (Rechecked answer) e stayed right = absurd right
 called (Weed command conflicts) old new files (Unviolated why) e stayed right = absurd right
+called (Weed command conflicts) old new files (Searched found) e stayed right = absurd right
+called (Seek command turns conflicts) old new files (Report reply) e stayed right = replied command (Seeking turns conflicts) old new files reply e stayed right
+called (Seek command turns conflicts) old new files (Searched found) e stayed right = at_three command old files (RightOnBytes (Seeking turns conflicts) (Searched found)) e right
+called (Seek command turns conflicts) old new files (Canonical text) e stayed right = absurd right
+called (Seek command turns conflicts) old new files (Summary text) e stayed right = absurd right
+called (Seek command turns conflicts) old new files (Demonstrated demo) e stayed right = absurd right
+called (Seek command turns conflicts) old new files (Certificate text) e stayed right = absurd right
+called (Seek command turns conflicts) old new files (Rechecked answer) e stayed right = absurd right
+called (Seek command turns conflicts) old new files (Unviolated why) e stayed right = absurd right
 
 stays : (old new : ℕ) → new ≡ old → old < 2 ^ 64 - 1 → Rose old new → ⊥
 stays old new same below rose = omega (arith, same, below, rose)

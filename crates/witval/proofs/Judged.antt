@@ -38,13 +38,13 @@ use Rattle.witval.specs.Replies.{CanonicalIn, NoReply, NoTreeReply, NoWitnessRep
 use Rattle.witval.specs.declared.input.File.TheVariants.{Witness as WitnessFile}
 use Rattle.witval.specs.declared.input.Inputs.{Inputs}
 use Rattle.witval.specs.declared.output.Output.{Output}
-use Rattle.witval.specs.declared.output.Output.TheVariants.{Report, Canonical, Summary, Demo as Demonstrated, Certificate, Rechecked, Unviolated}
+use Rattle.witval.specs.declared.output.Output.TheVariants.{Report, Canonical, Summary, Demo as Demonstrated, Certificate, Rechecked, Unviolated, Searched}
 use Rattle.witval.proofs.OfBytes.{of_four, of_one, of_read}
 use Rattle.witval.proofs.ShownValues.{sets_show_integers, shows_integers}
 use Rattle.clauses.specs.declared.log.Refutation.{Refutation}
 use Rattle.sym_duties.specs.declared.obligations.Obligations.{Obligations}
 use Rattle.witval.specs.Certificates.{Certifies, CertifiesPlaced, Rechecks, RechecksPlaced}
-use Rattle.witval.specs.Purposes.{IsKind, Purpose, Judging, Certifying, Rechecking, Weeding, RightOnInputs, RightOnWork, ToCertify, ToJudge, ToRecheck, ToWeed, Work}
+use Rattle.witval.specs.Purposes.{IsKind, Purpose, Judging, Certifying, Rechecking, Weeding, Seeking, RightOnInputs, RightOnWork, ToCertify, ToJudge, ToRecheck, ToWeed, ToSeek, Work}
 use Rattle.witval.specs.inside.Reports.{IsReport}
 use Rattle.witval.specs.Running.{HasIntegers}
 use Rattle.witval.specs.declared.input.FourInputs.{FourInputs}
@@ -104,6 +104,7 @@ OfWork (Judging budgets) P = (witness : Witness) (p : Program) (output : Output)
 OfWork (Certifying conflicts) P = (witness : Witness) (p : Program) (output : Output) → RightOnWork (ToCertify conflicts) witness p output → P output
 OfWork (Rechecking bytes) P = (logs : List Refutation) (witness : Witness) (p : Program) (output : Output) → RightOnWork (ToRecheck logs) witness p output → P output
 OfWork (Weeding conflicts) P = (witness : Witness) (p : Program) (output : Output) → RightOnWork (ToWeed conflicts) witness p output → P output
+OfWork (Seeking turns conflicts) P = (witness : Witness) (p : Program) (output : Output) → RightOnWork (ToSeek turns conflicts) witness p output → P output
 
 report_kept : (P : Output → Type 0) (Q : Reply → Type 0) → ((reply : Reply) → Q reply → P (Report reply)) → (output : Output) → Reports Q output → P output
 report_kept P Q kept (Report reply) right = kept reply right
@@ -113,6 +114,7 @@ report_kept P Q kept (Demonstrated demo) right = absurd right
 report_kept P Q kept (Certificate text) right = absurd right
 report_kept P Q kept (Rechecked answer) right = absurd right
 report_kept P Q kept (Unviolated why) right = absurd right
+report_kept P Q kept (Searched found) right = absurd right
 
 -- a stage is kept where what is right with what it finds is kept
 pub given_kept : {A : Type 0} (P : Output → Type 0) (refusal : Output) (o : Option A) (within : A → Output → Type 0) → P refusal
@@ -170,6 +172,9 @@ on_model P h (Rechecking bytes) property text witness model kept output right =
 on_model P h (Weeding conflicts) property text witness model kept output right =
     choosing_kept P (holds_sets witness) (RightOnText (ToWeed conflicts) property text witness model) IsKind
     (on_text P h (ToWeed conflicts) property text witness model (kept witness)) (on_kind P h) output right
+on_model P h (Seeking turns conflicts) property text witness model kept output right =
+    choosing_kept P (holds_sets witness) IsKind (RightOnText (ToSeek turns conflicts) property text witness model) (on_kind P h)
+    (on_text P h (ToSeek turns conflicts) property text witness model (kept witness)) output right
 
 on_witness : (P : Output → Type 0) → OfRefusals P → (purpose : Purpose) (property : Property) (text : List ℕ) (witness : Witness) → OfWork purpose P
     → (output : Output) → RightOnWitness purpose property text witness output → P output
@@ -222,6 +227,7 @@ any_report (Demonstrated demo) right = absurd right
 any_report (Certificate text) right = absurd right
 any_report (Rechecked answer) right = absurd right
 any_report (Unviolated why) right = absurd right
+any_report (Searched found) right = absurd right
 
 -- where a verdict is asked for, only reports are right
 pub only_reports : (budgets : Budgets) (program witness : List ℕ) (output : Output) → RightUnder (Judging budgets) program witness UnreachCall output → IsReport output
@@ -238,6 +244,7 @@ IsCertificateLike (Summary text) = ⊥
 IsCertificateLike (Demonstrated demo) = ⊥
 IsCertificateLike (Rechecked answer) = ⊥
 IsCertificateLike (Unviolated why) = ⊥
+IsCertificateLike (Searched found) = ⊥
 
 certificate_of_refusals : OfRefusals IsCertificateLike
 unfolding IsCertificateLike
@@ -254,6 +261,7 @@ certified conflicts p I o (Summary text) right = absurd right
 certified conflicts p I o (Demonstrated demo) right = absurd right
 certified conflicts p I o (Rechecked answer) right = absurd right
 certified conflicts p I o (Unviolated why) right = absurd right
+certified conflicts p I o (Searched found) right = absurd right
 
 certificate_placed : (conflicts : ℕ) (p : Program) (I : List Placed) (output : Output) → CertifiesPlaced conflicts p I output → IsCertificateLike output
 certificate_placed conflicts p I output right =
@@ -274,6 +282,7 @@ IsRecheckLike (Report reply) = Refuses reply
 IsRecheckLike (Rechecked answer) = Unit {0}
 IsRecheckLike (Certificate text) = ⊥
 IsRecheckLike (Unviolated why) = ⊥
+IsRecheckLike (Searched found) = ⊥
 IsRecheckLike (Canonical text) = ⊥
 IsRecheckLike (Summary text) = ⊥
 IsRecheckLike (Demonstrated demo) = ⊥
@@ -288,6 +297,7 @@ rechecked p I logs o (Rechecked answer) right = tt
 rechecked p I logs o (Report reply) right = absurd right
 rechecked p I logs o (Certificate text) right = absurd right
 rechecked p I logs o (Unviolated why) right = absurd right
+rechecked p I logs o (Searched found) right = absurd right
 rechecked p I logs o (Canonical text) right = absurd right
 rechecked p I logs o (Summary text) right = absurd right
 rechecked p I logs o (Demonstrated demo) right = absurd right
@@ -334,6 +344,7 @@ verdict_on command budgets old new inputs (Demonstrated demo) short a right othe
 verdict_on command budgets old new inputs (Certificate text) short a right other = absurd other
 verdict_on command budgets old new inputs (Rechecked answer) short a right other = absurd other
 verdict_on command budgets old new inputs (Unviolated why) short a right other = absurd other
+verdict_on command budgets old new inputs (Searched found) short a right other = absurd other
 
 pub verdict_if : {E : Type 0} (command : Command) (budgets : Budgets) (old new : ShelfState) (inputs : Inputs) (result : Result Output E) → AreWithin inputs → Told command old (AreInputs inputs)
     → IfOk result (RightOnInputs (Judging budgets) inputs.program.items inputs.property.items inputs.witness.items) → IfOk result (RightVerdict command budgets old new) × IfOk result HasIntegers
@@ -353,6 +364,7 @@ certificate_on command conflicts old new inputs (Summary text) short a right oth
 certificate_on command conflicts old new inputs (Demonstrated demo) short a right other = absurd other
 certificate_on command conflicts old new inputs (Rechecked answer) short a right other = absurd other
 certificate_on command conflicts old new inputs (Unviolated why) short a right other = absurd other
+certificate_on command conflicts old new inputs (Searched found) short a right other = absurd other
 
 pub certificate_if : {E : Type 0} (command : Command) (conflicts : ℕ) (old new : ShelfState) (inputs : Inputs) (result : Result Output E) → AreWithin inputs → Told command old (AreInputs inputs)
     → IfOk result (RightOnInputs (Certifying conflicts) inputs.program.items inputs.property.items inputs.witness.items)
@@ -374,6 +386,7 @@ recheck_on command name old new four (Report (ReadFault file)) short a within b 
 recheck_on command name old new four (Rechecked answer) short a within b right other = (of_four command name old four (Rechecked answer) short a within b right, tt)
 recheck_on command name old new four (Certificate text) short a within b right other = absurd other
 recheck_on command name old new four (Unviolated why) short a within b right other = absurd other
+recheck_on command name old new four (Searched found) short a within b right other = absurd other
 recheck_on command name old new four (Canonical text) short a within b right other = absurd other
 recheck_on command name old new four (Summary text) short a within b right other = absurd other
 recheck_on command name old new four (Demonstrated demo) short a within b right other = absurd other
@@ -414,6 +427,7 @@ IsOfWitness (Demonstrated demo) = ⊥
 IsOfWitness (Certificate text) = ⊥
 IsOfWitness (Rechecked answer) = ⊥
 IsOfWitness (Unviolated why) = ⊥
+IsOfWitness (Searched found) = ⊥
 
 abbrev OfWitness : (Output → List ℕ → Type 0) → List ℕ → Type 0
 OfWitness Within bytes = (output : Output) → Within output bytes → IsOfWitness output
@@ -430,6 +444,7 @@ alone Within name old new bytes (Demonstrated demo) only none short a right = ab
 alone Within name old new bytes (Certificate text) only none short a right = absurd (none (Certificate text) right)
 alone Within name old new bytes (Rechecked answer) only none short a right = absurd (none (Rechecked answer) right)
 alone Within name old new bytes (Unviolated why) only none short a right = absurd (none (Unviolated why) right)
+alone Within name old new bytes (Searched found) only none short a right = absurd (none (Searched found) right)
 
 canonical_only : (bytes : List ℕ) → OfWitness CanonicalIn bytes
 canonical_only bytes (Report reply) right = tt
@@ -439,6 +454,7 @@ canonical_only bytes (Demonstrated demo) right = absurd right
 canonical_only bytes (Certificate text) right = absurd right
 canonical_only bytes (Rechecked answer) right = absurd right
 canonical_only bytes (Unviolated why) right = absurd right
+canonical_only bytes (Searched found) right = absurd right
 
 summary_only : (bytes : List ℕ) → OfWitness SummaryIn bytes
 summary_only bytes (Report reply) right = tt
@@ -448,6 +464,7 @@ summary_only bytes (Demonstrated demo) right = absurd right
 summary_only bytes (Certificate text) right = absurd right
 summary_only bytes (Rechecked answer) right = absurd right
 summary_only bytes (Unviolated why) right = absurd right
+summary_only bytes (Searched found) right = absurd right
 
 pub canonical_if : {E : Type 0} (name : List ℕ) (old new : ShelfState) (bytes : List ℕ) (result : Result Output E) → length bytes ≤ limit_of WitnessFile
     → ToldOne name old (λ told. bytes ≡ told) → IfOk result (λ output. CanonicalIn output bytes) → IfOk result (RightAlone CanonicalIn name old new)

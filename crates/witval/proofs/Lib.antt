@@ -4,6 +4,7 @@ pub mod Refusing
 pub mod Judged
 pub mod WrittenOutputs
 pub mod Weeded
+pub mod Searched
 pub mod Sources
 pub mod ShortKeys
 pub mod FittingTrees

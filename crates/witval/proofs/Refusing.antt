@@ -13,6 +13,8 @@ use Rattle.sym_duties.specs.declared.fault.SymFault.{SymFault}
 use Rattle.sym_duties.specs.declared.fault.SymFault.TheVariants as duties
 use Rattle.way_bind.specs.declared.fault.BindFault.{BindFault}
 use Rattle.way_bind.specs.declared.fault.BindFault.TheVariants as bind
+use Rattle.wv_seek.specs.declared.fault.SeekFault.{SeekFault}
+use Rattle.wv_seek.specs.declared.fault.SeekFault.TheVariants as seek
 use Rattle.wv_report.specs.Json.{HasJsonIntegers}
 use Rattle.wv_report.specs.declared.reply.Reply.{Reply}
 use Rattle.wv_report.specs.declared.reply.Reply.TheVariants.{Verdict as Judged, Refused, ReadFault}
@@ -22,7 +24,7 @@ use Rattle.wv_task.specs.declared.fault.TaskFault.{TaskFault}
 use Rattle.wv_task.specs.declared.fault.TaskFault.TheVariants as task
 use Rattle.yaml_scalars.specs.declared.fault.YamlFault.{YamlFault}
 use Rattle.yaml_scalars.specs.declared.fault.YamlFault.TheVariants.{Bytes, Grammar, Duplicate, OutOfMemory}
-use Rattle.witval.specs.Refusals.{IsBindRefusal, IsCertificateRefusal, IsCheckRefusal, IsObligationRefusal, IsRefusal, IsSchemaRefusal, IsSyntaxRefusal, IsTaskRefusal, IsTokenRefusal, check_code, place_text}
+use Rattle.witval.specs.Refusals.{IsBindRefusal, IsCertificateRefusal, IsCheckRefusal, IsObligationRefusal, IsRefusal, IsSchemaRefusal, IsSearchRefusal, IsSyntaxRefusal, IsTaskRefusal, IsTokenRefusal, check_code, place_text}
 use Rattle.witval.specs.Replies.{too_long}
 use Rattle.wv_cert.specs.declared.fault.CertFault.{CertFault}
 use Rattle.wv_cert.specs.declared.fault.CertFault.TheVariants as cert
@@ -109,6 +111,11 @@ bind_refusals (bind.NoPlace waypoint) reply e = subst Refuses (sym e) refl
 bind_refusals (bind.Expression waypoint) reply e = subst Refuses (sym e) refl
 bind_refusals (bind.Scope waypoint) reply e = subst Refuses (sym e) refl
 bind_refusals bind.OutOfMemory reply e = absurd e
+
+pub search_refusals : (fault : SeekFault) (reply : Reply) → IsSearchRefusal fault reply → Refuses reply
+unfolding Refuses
+search_refusals seek.TooBig reply e = subst Refuses (sym e) refl
+search_refusals seek.OutOfMemory reply e = absurd e
 
 pub obligation_refusals : (fault : SymFault) (reply : Reply) → IsObligationRefusal fault reply → Refuses reply
 unfolding Refuses

@@ -34,7 +34,7 @@ use Rattle.witval.specs.declared.input.Inputs.{Inputs}
 use Rattle.witval.specs.declared.input.Stop.{Stop}
 use Rattle.witval.specs.declared.input.Stop.TheVariants as stop
 use Rattle.witval.specs.declared.output.Output.{Output}
-use Rattle.witval.specs.declared.output.Output.TheVariants.{Report, Canonical, Summary, Demo as Demonstrated, Certificate, Rechecked, Unviolated}
+use Rattle.witval.specs.declared.output.Output.TheVariants.{Report, Canonical, Summary, Demo as Demonstrated, Certificate, Rechecked, Unviolated, Searched}
 use Rattle.witval.specs.inside.AuthoringRests.{AuthorsOnFile, AuthorsOnModel, AuthorsOnProgram, AuthorsOnSegments, AuthorsOnSource, AuthorsOnText, AuthorsOnTokens, AuthorsOnValues, AuthorsUnder}
 use Rattle.witval.proofs.Judged.{OfRefusals, given_kept, known_kept, reported}
 use Rattle.witval.proofs.OfBytes.{short_files, some_too_long, spread, theirs}
@@ -46,6 +46,7 @@ IsAuthorLike : Output → Type 0
 IsAuthorLike (Report reply) = NotOfLength reply
 IsAuthorLike (Canonical text) = Unit {0}
 IsAuthorLike (Unviolated why) = Unit {0}
+IsAuthorLike (Searched found) = ⊥
 IsAuthorLike (Summary text) = ⊥
 IsAuthorLike (Demonstrated demo) = ⊥
 IsAuthorLike (Certificate text) = ⊥
@@ -173,6 +174,7 @@ author_on sources label steps old new inputs (Report (Judged verdict)) short a r
 author_on sources label steps old new inputs (Report (ReadFault text)) short a right other = absurd other
 author_on sources label steps old new inputs (Canonical text) short a right other = (of_sources sources label steps old inputs (Canonical text) short a right, tt)
 author_on sources label steps old new inputs (Unviolated why) short a right other = (of_sources sources label steps old inputs (Unviolated why) short a right, tt)
+author_on sources label steps old new inputs (Searched found) short a right other = absurd other
 author_on sources label steps old new inputs (Summary text) short a right other = absurd other
 author_on sources label steps old new inputs (Demonstrated demo) short a right other = absurd other
 author_on sources label steps old new inputs (Certificate text) short a right other = absurd other

@@ -19,7 +19,7 @@ use Rattle.witval.specs.Stages.{itself}
 use Rattle.witval.specs.Weeding.{TellsWeeded, WeedsPlaced, kept_in}
 use Rattle.witval.specs.declared.input.Inputs.{Inputs}
 use Rattle.witval.specs.declared.output.Output.{Output}
-use Rattle.witval.specs.declared.output.Output.TheVariants.{Report, Canonical, Summary, Demo as Demonstrated, Certificate, Rechecked, Unviolated}
+use Rattle.witval.specs.declared.output.Output.TheVariants.{Report, Canonical, Summary, Demo as Demonstrated, Certificate, Rechecked, Unviolated, Searched}
 use Rattle.witval.proofs.Judged.{OfRefusals, OfWork, known_kept, on_inputs, replied, reported}
 use Rattle.witval.proofs.OfBytes.{of_read}
 use Rattle.witval.proofs.Refusing.{NotOfLength, bind_refusals, not_of_length, obligation_refusals}
@@ -34,6 +34,7 @@ IsWeedLike (Demonstrated demo) = ⊥
 IsWeedLike (Certificate text) = ⊥
 IsWeedLike (Rechecked answer) = ⊥
 IsWeedLike (Unviolated why) = ⊥
+IsWeedLike (Searched found) = ⊥
 
 refused : OfRefusals IsWeedLike
 unfolding IsWeedLike
@@ -71,6 +72,7 @@ weed_on command conflicts old new inputs (Demonstrated demo) short a right other
 weed_on command conflicts old new inputs (Certificate text) short a right other = absurd other
 weed_on command conflicts old new inputs (Rechecked answer) short a right other = absurd other
 weed_on command conflicts old new inputs (Unviolated why) short a right other = absurd other
+weed_on command conflicts old new inputs (Searched found) short a right other = absurd other
 
 pub weed_if : {E : Type 0} (command : Command) (conflicts : ℕ) (old new : ShelfState) (inputs : Inputs) (result : Result Output E) → AreWithin inputs → Told command old (AreInputs inputs)
     → IfOk result (RightOnInputs (Weeding conflicts) inputs.program.items inputs.property.items inputs.witness.items)

@@ -22,7 +22,7 @@ use Rattle.witval.specs.Refusals.{IsBindRefusal, IsObligationRefusal}
 use Rattle.witval.specs.Stages.{◌>>=◌, answered, itself, refusing}
 use Rattle.witval.specs.Tasks.{IsRightOnSets}
 use Rattle.witval.specs.declared.output.Output.{Output}
-use Rattle.witval.specs.declared.output.Output.TheVariants.{Report, Canonical, Summary, Demo as Demonstrated, Certificate, Rechecked, Unviolated}
+use Rattle.witval.specs.declared.output.Output.TheVariants.{Report, Canonical, Summary, Demo as Demonstrated, Certificate, Rechecked, Unviolated, Searched}
 
 -- the obligations of a program and invariants: a net for them, within the program's weight; or why there is none
 abbrev pub Obliges : Program → List Placed → Result Obligations SymFault → Type 0
@@ -55,6 +55,7 @@ Certifies conflicts p I o (Summary text) = ⊥
 Certifies conflicts p I o (Demonstrated demo) = ⊥
 Certifies conflicts p I o (Rechecked answer) = ⊥
 Certifies conflicts p I o (Unviolated why) = ⊥
+Certifies conflicts p I o (Searched found) = ⊥
 
 -- the output for invariants, bound to the program
 abbrev pub CertifiesPlaced : ℕ → Program → List Placed → Output → Type 0
@@ -80,6 +81,7 @@ Rechecks p I logs o (Summary text) = ⊥
 Rechecks p I logs o (Demonstrated demo) = ⊥
 Rechecks p I logs o (Certificate text) = ⊥
 Rechecks p I logs o (Unviolated why) = ⊥
+Rechecks p I logs o (Searched found) = ⊥
 
 -- the output for invariants, bound to the program
 abbrev pub RechecksPlaced : List Refutation → Program → List Placed → Output → Type 0

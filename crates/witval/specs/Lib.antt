@@ -5,6 +5,7 @@ pub mod Tasks
 pub mod Certificates
 pub mod Writing
 pub mod Weeding
+pub mod Searching
 pub mod Authoring
 pub mod Purposes
 pub mod Demos

@@ -18,6 +18,7 @@ use Rattle.witval.specs.Certificates.{CertifiesSets, RechecksSets}
 use Rattle.witval.specs.Refusals.{IsRefusal, IsSchemaRefusal, IsTaskRefusal, IsCertificateRefusal, IsTokenRefusal, IsSyntaxRefusal, IsCheckRefusal, plain}
 use Rattle.witval.specs.Stages.{◌>>=◌, Stage, given, known, answered, choosing, itself, Reports, refusing}
 use Rattle.witval.specs.Tasks.{RightOnProgram, holds_sets}
+use Rattle.witval.specs.Searching.{SeeksValues}
 use Rattle.witval.specs.Weeding.{WeedsSets}
 use Rattle.witval.specs.declared.output.Output.{Output}
 use Rattle.witval.specs.declared.output.Output.TheVariants.{Report}
@@ -27,21 +28,25 @@ use Rattle.witval.specs.declared.purpose.Work.{Work as Planned}
 use Rattle.witval.specs.declared.purpose.Work.TheVariants as work
 
 -- a verdict; a certificate, with a budget of conflicts; a certificate to check again, by its bytes; the invariants that hold up
--- together, with a budget of conflicts
+-- together, with a budget of conflicts; values for open inputs, with a bound on turns and calls and a budget of conflicts
 pub data Purpose : Type 0 where
   Judging : Budgets → Purpose
   Certifying : ℕ → Purpose
   Rechecking : List ℕ → Purpose
   Weeding : ℕ → Purpose
+  Seeking : ℕ → ℕ → Purpose
 
--- what is done with a checked program: it is judged; it is certified; the logs of a certificate are checked; its invariants are weeded
+-- what is done with a checked program: it is judged; it is certified; the logs of a certificate are checked; its invariants are weeded;
+-- values for its open inputs are sought
 pub data Work : Type 0 where
   ToJudge : Budgets → Work
   ToCertify : ℕ → Work
   ToRecheck : List Refutation → Work
   ToWeed : ℕ → Work
+  ToSeek : ℕ → ℕ → Work
 
--- a witness without invariant sets, where a certificate is wanted or checked again, or invariants are weeded
+-- a witness without invariant sets, where a certificate is wanted or checked again, or invariants are weeded; a witness with them, where
+-- values are sought
 abbrev pub kind : Output
 kind = Report (plain (codes "kind"))
 
@@ -49,13 +54,14 @@ abbrev pub IsKind : Output → Type 0
 IsKind output = output ≡ kind
 
 -- what a purpose asks to be done, before the program is read: certificates are of invariant sets alone, and one is read first; only
--- invariant sets are weeded
+-- invariant sets are weeded; values are sought for violation sequences alone
 abbrev pub working : Purpose → Witness → Stage Output Work
 working (Judging budgets) witness within = within (ToJudge budgets)
 working (Certifying conflicts) witness within = choosing (holds_sets witness) (within (ToCertify conflicts)) IsKind
 working (Rechecking bytes) witness within =
     choosing (holds_sets witness) (answered (CertificateAnswers bytes) itself (refusing IsCertificateRefusal) (λ logs. within (ToRecheck logs))) IsKind
 working (Weeding conflicts) witness within = choosing (holds_sets witness) (within (ToWeed conflicts)) IsKind
+working (Seeking turns conflicts) witness within = choosing (holds_sets witness) IsKind (within (ToSeek turns conflicts))
 
 -- the output for a checked program and its witness
 abbrev pub RightOnWork : Work → Witness → Program → Output → Type 0
@@ -63,6 +69,7 @@ RightOnWork (ToJudge budgets) witness program = Reports (RightOnProgram budgets 
 RightOnWork (ToCertify conflicts) witness program = CertifiesSets conflicts witness program
 RightOnWork (ToRecheck logs) witness program = RechecksSets logs witness program
 RightOnWork (ToWeed conflicts) witness program = WeedsSets conflicts witness program
+RightOnWork (ToSeek turns conflicts) witness program = SeeksValues turns conflicts witness program
 
 -- the output for three files of allowed length: each stage in its order, then what is to be done
 abbrev pub RightOnInputs : Purpose → List ℕ → List ℕ → List ℕ → Output → Type 0
@@ -84,9 +91,11 @@ meant (purpose.Judge budgets) = Judging (limits budgets)
 meant (purpose.Certify conflicts) = Certifying conflicts
 meant (purpose.Recheck bytes) = Rechecking bytes
 meant (purpose.Weed conflicts) = Weeding conflicts
+meant (purpose.Seek turns conflicts) = Seeking turns conflicts
 
 abbrev pub planned : Planned → Work
 planned (work.Judge budgets) = ToJudge (limits budgets)
 planned (work.Certify conflicts) = ToCertify conflicts
 planned (work.Recheck logs) = ToRecheck logs
 planned (work.Weed conflicts) = ToWeed conflicts
+planned (work.Seek turns conflicts) = ToSeek turns conflicts

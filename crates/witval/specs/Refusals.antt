@@ -1,5 +1,5 @@
 -- The refusals of the readers: of YAML, of the schema, of the task, of certificates, of tokens, of the grammar, of the rules of a source, of the
--- waypoints and invariants, and of the obligations.
+-- waypoints and invariants, of the obligations, and of a search for values.
 use Rattle.std.specs.Prelude.{◌≡◌, ℕ, List, [], ◌∷◌, ◌++◌, codes, decimal}
 use Rattle.c_parser.specs.declared.fault.ParseFault.{ParseFault}
 use Rattle.c_parser.specs.declared.fault.ParseFault.TheVariants as parse
@@ -22,6 +22,8 @@ use Rattle.wv_schema.specs.declared.fault.SchemaFault.TheVariants as schema
 use Rattle.wv_task.specs.declared.fault.TaskFault.{TaskFault}
 use Rattle.wv_task.specs.declared.fault.TaskFault.TheVariants as task
 use Rattle.wv_yaml.specs.Canon.{quoted_text}
+use Rattle.wv_seek.specs.declared.fault.SeekFault.{SeekFault}
+use Rattle.wv_seek.specs.declared.fault.SeekFault.TheVariants as seek
 use Rattle.yaml_scalars.specs.declared.fault.YamlFault.{YamlFault}
 use Rattle.yaml_scalars.specs.declared.fault.YamlFault.TheVariants.{Bytes, Grammar, Duplicate, OutOfMemory}
 
@@ -109,3 +111,8 @@ abbrev pub IsObligationRefusal : SymFault → Reply → Type 0
 IsObligationRefusal (duties.Recursion name) reply = reply ≡ Refused (codes "recursion") name
 IsObligationRefusal duties.TooBig reply = reply ≡ plain (codes "weight")
 IsObligationRefusal duties.OutOfMemory reply = ⊥
+
+-- the refusal of a violation sequence about a program whose runs within the bound are too heavy
+abbrev pub IsSearchRefusal : SeekFault → Reply → Type 0
+IsSearchRefusal seek.TooBig reply = reply ≡ plain (codes "weight")
+IsSearchRefusal seek.OutOfMemory reply = ⊥

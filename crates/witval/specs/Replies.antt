@@ -8,14 +8,14 @@ use Rattle.wv_report.specs.declared.reply.Reply.TheVariants.{Verdict as Judged, 
 use Rattle.wv_schema.specs.Schema.{witness_of}
 use Rattle.wv_schema.specs.declared.witness.Witness.{Witness}
 use Rattle.wv_show.specs.Show.{summary_of}
-use Rattle.wv_arguments.specs.Words.{Command, Budgets, Label, Sources, Wanted, Validate, Show, Normalise, Demo, Certify, Recheck, Author, Weed}
+use Rattle.wv_arguments.specs.Words.{Command, Budgets, Label, Sources, Wanted, Validate, Show, Normalise, Demo, Certify, Recheck, Author, Weed, Seek}
 use Rattle.wv_yaml.specs.declared.tree.Tree.{Tree}
 use Rattle.wv_yaml.specs.Canon.{canon}
 use Rattle.wv_yaml.specs.Reading.{IsAnswer}
 use Rattle.witval.specs.Authoring.{AuthorsOnInputs}
 use Rattle.witval.specs.Inputs.{OfBytes, OfOne, Faulted, FaultedAt, TookTooMuch, TookTooMuchOf, certificate_limit, certificate_word, in_order, source_word, word_of, limit_of, first_too_long, too_long_alone}
 use Rattle.witval.specs.Refusals.{IsRefusal, IsSchemaRefusal, plain}
-use Rattle.witval.specs.Purposes.{Purpose, Judging, Certifying, Rechecking, Weeding, RightOnInputs}
+use Rattle.witval.specs.Purposes.{Purpose, Judging, Certifying, Rechecking, Weeding, Seeking, RightOnInputs}
 use Rattle.witval.specs.Stages.{known, answered, choosing, itself}
 use Rattle.witval.specs.Demos.{IsDemonstration}
 use Rattle.witval.specs.declared.input.File.{File}
@@ -25,7 +25,7 @@ use Rattle.witval.specs.declared.input.FourStop.TheVariants as four
 use Rattle.witval.specs.declared.input.Stop.{Stop}
 use Rattle.witval.specs.declared.input.Stop.TheVariants as stop
 use Rattle.witval.specs.declared.output.Output.{Output}
-use Rattle.witval.specs.declared.output.Output.TheVariants.{Report, Canonical, Summary, Demo as Demonstrated, Certificate, Rechecked, Unviolated}
+use Rattle.witval.specs.declared.output.Output.TheVariants.{Report, Canonical, Summary, Demo as Demonstrated, Certificate, Rechecked, Unviolated, Searched}
 
 -- the code of a file over its limit
 abbrev pub too_long : List ℕ
@@ -64,6 +64,7 @@ RightVerdict command budgets old new (Demonstrated demo) = ⊥
 RightVerdict command budgets old new (Certificate text) = ⊥
 RightVerdict command budgets old new (Rechecked answer) = ⊥
 RightVerdict command budgets old new (Unviolated why) = ⊥
+RightVerdict command budgets old new (Searched found) = ⊥
 
 -- where a certificate is asked for, one is written, or a report
 abbrev pub RightCertificate : Command → ℕ → ShelfState → ShelfState → Output → Type 0
@@ -74,6 +75,7 @@ RightCertificate command conflicts old new (Summary text) = ⊥
 RightCertificate command conflicts old new (Demonstrated demo) = ⊥
 RightCertificate command conflicts old new (Rechecked answer) = ⊥
 RightCertificate command conflicts old new (Unviolated why) = ⊥
+RightCertificate command conflicts old new (Searched found) = ⊥
 
 -- where invariants that hold up together are asked for, a witness is written, or a report
 abbrev pub RightWeed : Command → ℕ → ShelfState → ShelfState → Output → Type 0
@@ -84,6 +86,18 @@ RightWeed command conflicts old new (Demonstrated demo) = ⊥
 RightWeed command conflicts old new (Certificate text) = ⊥
 RightWeed command conflicts old new (Rechecked answer) = ⊥
 RightWeed command conflicts old new (Unviolated why) = ⊥
+RightWeed command conflicts old new (Searched found) = ⊥
+
+-- where values for open inputs are asked for, what the search came to is written, or a report
+abbrev pub RightSeek : Command → ℕ → ℕ → ShelfState → ShelfState → Output → Type 0
+RightSeek command turns conflicts old new (Report reply) = RightFor command (Seeking turns conflicts) old new reply
+RightSeek command turns conflicts old new (Searched found) = OfBytes command old (RightOnBytes (Seeking turns conflicts) (Searched found))
+RightSeek command turns conflicts old new (Canonical text) = ⊥
+RightSeek command turns conflicts old new (Summary text) = ⊥
+RightSeek command turns conflicts old new (Demonstrated demo) = ⊥
+RightSeek command turns conflicts old new (Certificate text) = ⊥
+RightSeek command turns conflicts old new (Rechecked answer) = ⊥
+RightSeek command turns conflicts old new (Unviolated why) = ⊥
 
 -- the reply where reading one of three files stopped; out of memory is no reply
 abbrev pub IsStopped : Stop → Reply → Type 0
@@ -129,6 +143,7 @@ RightRecheck command name old new (Summary text) = ⊥
 RightRecheck command name old new (Demonstrated demo) = ⊥
 RightRecheck command name old new (Certificate text) = ⊥
 RightRecheck command name old new (Unviolated why) = ⊥
+RightRecheck command name old new (Searched found) = ⊥
 
 -- the reply where reading three files and a certificate stopped
 abbrev pub IsStoppedOfFour : FourStop → Reply → Type 0
@@ -171,6 +186,7 @@ RightAuthor sources label steps old new (Report (Refused code detail)) =
 RightAuthor sources label steps old new (Report (Judged verdict)) = AuthorsOn sources label steps old (Report (Judged verdict))
 RightAuthor sources label steps old new (Canonical text) = AuthorsOn sources label steps old (Canonical text)
 RightAuthor sources label steps old new (Unviolated why) = AuthorsOn sources label steps old (Unviolated why)
+RightAuthor sources label steps old new (Searched found) = ⊥
 RightAuthor sources label steps old new (Summary text) = ⊥
 RightAuthor sources label steps old new (Demonstrated demo) = ⊥
 RightAuthor sources label steps old new (Certificate text) = ⊥
@@ -197,6 +213,7 @@ CanonicalIn (Demonstrated demo) witness = ⊥
 CanonicalIn (Certificate text) witness = ⊥
 CanonicalIn (Rechecked answer) witness = ⊥
 CanonicalIn (Unviolated why) witness = ⊥
+CanonicalIn (Searched found) witness = ⊥
 
 -- no witness has a reply where its summary is asked for
 abbrev pub NoWitnessReply : Witness → Reply → Type 0
@@ -214,6 +231,7 @@ SummaryOf (Demonstrated demo) tree = ⊥
 SummaryOf (Certificate text) tree = ⊥
 SummaryOf (Rechecked answer) tree = ⊥
 SummaryOf (Unviolated why) tree = ⊥
+SummaryOf (Searched found) tree = ⊥
 SummaryOf (Summary text) tree = (witness : Witness) × (witness_of tree ≡ Ok witness) × (text ≡ summary_of witness)
 
 -- the same of the bytes of a witness of allowed length
@@ -224,6 +242,7 @@ SummaryIn (Demonstrated demo) witness = ⊥
 SummaryIn (Certificate text) witness = ⊥
 SummaryIn (Rechecked answer) witness = ⊥
 SummaryIn (Unviolated why) witness = ⊥
+SummaryIn (Searched found) witness = ⊥
 SummaryIn (Summary text) witness = (tree : Tree) × IsAnswer witness (Ok tree) × SummaryOf (Summary text) tree
 
 -- what the bytes of a witness call for: the refusal of a long file, or what those of allowed length do
@@ -251,6 +270,7 @@ RightAlone Within name old new (Demonstrated demo) = ⊥
 RightAlone Within name old new (Certificate text) = ⊥
 RightAlone Within name old new (Rechecked answer) = ⊥
 RightAlone Within name old new (Unviolated why) = ⊥
+RightAlone Within name old new (Searched found) = ⊥
 
 -- arguments that ask for nothing
 abbrev pub usage : Output
@@ -265,6 +285,7 @@ RightDemo number budgets (Summary text) = ⊥
 RightDemo number budgets (Certificate text) = ⊥
 RightDemo number budgets (Rechecked answer) = ⊥
 RightDemo number budgets (Unviolated why) = ⊥
+RightDemo number budgets (Searched found) = ⊥
 
 -- the output that is owed to what the arguments ask for
 abbrev pub Right : Option Wanted → ShelfState → ShelfState → Output → Type 0
@@ -277,3 +298,4 @@ Right (Some (Certify command conflicts)) old new output = RightCertificate comma
 Right (Some (Recheck command name)) old new output = RightRecheck command name old new output
 Right (Some (Author sources label steps)) old new output = RightAuthor sources label steps old new output
 Right (Some (Weed command conflicts)) old new output = RightWeed command conflicts old new output
+Right (Some (Seek command turns conflicts)) old new output = RightSeek command turns conflicts old new output

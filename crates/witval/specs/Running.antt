@@ -6,15 +6,17 @@ use Rattle.wv_base.specs.Sink.{SinkState, Gained}
 use Rattle.wv_report.specs.Json.{HasJsonIntegers, json_of}
 use Rattle.wv_cert.specs.declared.checking.Rechecked.{Rechecked as Answer}
 use Rattle.wv_cert.specs.declared.checking.Rechecked.TheVariants as answers
-use Rattle.wv_report.specs.Report.{status_of, text_of}
+use Rattle.wv_report.specs.Report.{found_text, status_of, text_of}
 use Rattle.wv_report.specs.declared.reply.Reply.{Reply}
-use Rattle.wv_arguments.specs.Words.{Asked, Wanted, Validate, Show, Normalise, Demo, Certify, Recheck, Author, Weed, asked_by}
+use Rattle.wv_arguments.specs.Words.{Asked, Wanted, Validate, Show, Normalise, Demo, Certify, Recheck, Author, Weed, Seek, asked_by}
 use Rattle.witval.specs.Demos.{demo_status, demo_text}
 use Rattle.witval.specs.Inputs.{OfFiles, in_order}
-use Rattle.witval.specs.Purposes.{Judging, Certifying, Weeding}
+use Rattle.witval.specs.Purposes.{Judging, Certifying, Weeding, Seeking}
 use Rattle.witval.specs.Replies.{AuthorsOnBytes, Right, RightOnBytes, RightOnFour, CanonicalIn, SummaryIn, OnWitness, RightDemo}
 use Rattle.witval.specs.declared.output.Output.{Output}
-use Rattle.witval.specs.declared.output.Output.TheVariants.{Report, Canonical, Summary, Demo as Demonstrated, Certificate, Rechecked, Unviolated}
+use Rattle.witval.specs.declared.output.Output.TheVariants.{Report, Canonical, Summary, Demo as Demonstrated, Certificate, Rechecked, Unviolated, Searched}
+use Rattle.witval.specs.declared.output.Searched.{Searched as Values}
+use Rattle.witval.specs.declared.output.Searched.TheVariants as searched
 use Rattle.witval.specs.declared.output.Unviolated.{Unviolated as Why}
 use Rattle.witval.specs.declared.output.Unviolated.TheVariants as unviolated
 
@@ -35,6 +37,18 @@ abbrev pub unviolated_text : Why → List ℕ
 unviolated_text unviolated.Ended = codes "no violation\nreason ended\n"
 unviolated_text (unviolated.Undefined spot) = codes "no violation\nreason undefined " ++ decimal spot.line ++ codes ":" ++ decimal spot.column ++ codes "\n"
 
+-- what is written of a search for values
+abbrev pub searched_text : Values → List ℕ
+searched_text (searched.Found draws positions) = found_text draws positions
+searched_text (searched.NoneWithin turns) = codes "no values within " ++ decimal turns ++ codes "\n"
+searched_text (searched.Spent conflicts) = codes "undecided conflicts " ++ decimal conflicts ++ codes "\n"
+
+-- and its status
+abbrev pub searched_status : Values → ℕ
+searched_status (searched.Found draws positions) = 0
+searched_status (searched.NoneWithin turns) = 1
+searched_status (searched.Spent conflicts) = 2
+
 -- the status and the bytes of an output
 abbrev pub status_by : Output → ℕ
 status_by (Report reply) = status_of reply
@@ -44,6 +58,7 @@ status_by (Demonstrated demo) = demo_status demo
 status_by (Certificate text) = 0
 status_by (Rechecked answer) = recheck_status answer
 status_by (Unviolated why) = 1
+status_by (Searched found) = searched_status found
 
 -- JSON where that is asked for
 abbrev pub report_by : Bool → Reply → List ℕ
@@ -59,6 +74,7 @@ bytes_by json (Demonstrated demo) = demo_text demo
 bytes_by json (Certificate text) = text
 bytes_by json (Rechecked answer) = recheck_text answer
 bytes_by json (Unviolated why) = unviolated_text why
+bytes_by json (Searched found) = searched_text found
 
 -- no report shows a number beyond 64 bits
 abbrev pub HasIntegers : Output → Type 0
@@ -69,6 +85,7 @@ HasIntegers (Demonstrated demo) = Unit {0}
 HasIntegers (Certificate text) = Unit {0}
 HasIntegers (Rechecked answer) = Unit {0}
 HasIntegers (Unviolated why) = Unit {0}
+HasIntegers (Searched found) = Unit {0}
 
 -- a right output, its status, and all of its bytes
 abbrev pub Replied : Asked → ShelfState → ShelfState → SinkState → SinkState → ℕ → Type 0
@@ -108,6 +125,7 @@ CallsFor (Validate command budgets) files (Demonstrated demo) = ⊥
 CallsFor (Validate command budgets) files (Certificate text) = ⊥
 CallsFor (Validate command budgets) files (Rechecked answer) = ⊥
 CallsFor (Validate command budgets) files (Unviolated why) = ⊥
+CallsFor (Validate command budgets) files (Searched found) = ⊥
 CallsFor (Show name) files output = OnWitness SummaryIn output (file_of files name)
 CallsFor (Normalise name) files output = OnWitness CanonicalIn output (file_of files name)
 CallsFor (Demo number budgets) files output = RightDemo number budgets output
@@ -115,6 +133,7 @@ CallsFor (Certify command conflicts) files output = OfFiles command files (Right
 CallsFor (Recheck command name) files output = OfFiles command files (λ program property witness. RightOnFour output program property witness (file_of files name))
 CallsFor (Author sources label steps) files output = OfFiles (in_order sources) files (AuthorsOnBytes label steps sources.program output)
 CallsFor (Weed command conflicts) files output = OfFiles command files (RightOnBytes (Weeding conflicts) output)
+CallsFor (Seek command turns conflicts) files output = OfFiles command files (RightOnBytes (Seeking turns conflicts) output)
 
 -- what the files call for is written, with its status
 abbrev pub Answered : Bool → Wanted → Files → SinkState → SinkState → ℕ → Type 0

@@ -2,7 +2,7 @@
 use Rattle.std.specs.Prelude.{◌≡◌, Bool, true, false, Result, Ok, Err, Option, Some, None}
 use Rattle.wv_report.specs.declared.reply.Reply.{Reply}
 use Rattle.witval.specs.declared.output.Output.{Output}
-use Rattle.witval.specs.declared.output.Output.TheVariants.{Report, Canonical, Summary, Demo as Demonstrated, Certificate, Rechecked, Unviolated}
+use Rattle.witval.specs.declared.output.Output.TheVariants.{Report, Canonical, Summary, Demo as Demonstrated, Certificate, Rechecked, Unviolated, Searched}
 
 -- finds a piece: which answers are right, by those that are right with what it finds
 abbrev pub Stage : Type 0 → Type 0 → Type 1
@@ -45,6 +45,7 @@ Reports IsRight (Demonstrated demo) = ⊥
 Reports IsRight (Certificate text) = ⊥
 Reports IsRight (Rechecked answer) = ⊥
 Reports IsRight (Unviolated why) = ⊥
+Reports IsRight (Searched found) = ⊥
 
 -- the output reports the refusal of a fault
 abbrev pub refusing : {F : Type 0} → (F → Reply → Type 0) → F → Output → Type 0

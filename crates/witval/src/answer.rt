@@ -1,9 +1,9 @@
 ghost use Rattle.std.specs.Prelude.{◌≡◌, ◌≤◌, IfOk};
 ghost use Rattle.witval.specs.Inputs.{AreWithin};
 ghost use Rattle.witval.specs.Purposes.{Rechecking, RightOnInputs};
-ghost use Rattle.witval.specs.Replies.{CanonicalIn, IsStopped, IsStoppedAtSource, IsStoppedOfFour, Right, RightAlone, RightAuthor, RightCertificate, RightDemo, RightRecheck, RightVerdict, RightWeed, SummaryIn};
+ghost use Rattle.witval.specs.Replies.{CanonicalIn, IsStopped, IsStoppedAtSource, IsStoppedOfFour, Right, RightAlone, RightAuthor, RightCertificate, RightDemo, RightRecheck, RightSeek, RightVerdict, RightWeed, SummaryIn};
 ghost use Rattle.witval.specs.Running.{HasIntegers};
-ghost use Rattle.witval.specs.inside.Allowed.{AreAllowed, IsAllowed, IsBudget};
+ghost use Rattle.witval.specs.inside.Allowed.{AreAllowed, IsAllowed, IsBudget, IsSearch};
 ghost use Rattle.wv_arguments.specs.Requests.{given, labelled, limits, named, stated};
 
 use crate::authoring::{Draft, author_inputs};
@@ -141,6 +141,34 @@ fn weed<S: Shelf>(
     }
 }
 
+/// The same number, which is small.
+fn turns_of(turns: u64) -> u32
+    requires { turns ≤ 64 }
+    ensures { result ≡ turns }
+{
+    turns as u32
+}
+
+/// Values for the open inputs of a violation witness.
+fn seek<S: Shelf>(
+    alloc: Global,
+    names: &Names<'_>,
+    turns: u64,
+    conflicts: u64,
+    shelf: &mut S,
+) -> Result<Output, OutOfMemory>
+    requires { IsSearch turns conflicts }
+    ensures right { IfOk result (RightSeek (named names.now) turns conflicts (S.state shelf.old) (S.state shelf.new)) }
+    ensures integers { IfOk result HasIntegers }
+    ensures same_files { (S.state shelf.new).files ≡ (S.state shelf.old).files }
+{
+    let turns = turns_of(turns);
+    match read_three(alloc, names, shelf) {
+        Ok(inputs) => judge(alloc, &inputs, Purpose::Seek { turns, conflicts }),
+        Err(stop) => Ok(Output::Report(stopped(alloc, stop)?)),
+    }
+}
+
 /// The violation witness of the run of a program that takes values in turn.
 fn author<S: Shelf>(
     alloc: Global,
@@ -232,6 +260,13 @@ pub fn answer<S: Shelf>(
             },
         ) => author(alloc, &sources, &label, steps, shelf),
         Some(Request::Weed { names, conflicts }) => weed(alloc, &names, conflicts, shelf),
+        Some(
+            Request::Seek {
+                names,
+                turns,
+                conflicts,
+            },
+        ) => seek(alloc, &names, turns, conflicts, shelf),
         None => Ok(Output::Report(refuse_plainly(alloc, "usage")?)),
     }
 }

@@ -11,7 +11,7 @@ ghost use Rattle.witval.specs.Purposes.{IsKind, RightOnInputs, RightOnWork, mean
 ghost use Rattle.witval.specs.Tasks.{RightOnProgram, holds_sets};
 ghost use Rattle.witval.specs.inside.Allowed.{AllowsPurpose, AllowsWork, IsAllowed};
 ghost use Rattle.witval.specs.inside.Keys.{HasShortKeys};
-ghost use Rattle.witval.specs.inside.Rests.{RightOnLogs, RightOnModel, RightOnSource, RightOnText, RightOnTokens, RightOnTree, RightOnWitness, RightUnder};
+ghost use Rattle.witval.specs.inside.Rests.{RightOnLogs, RightOnModel, RightOnSegmentsAlone, RightOnSource, RightOnText, RightOnTokens, RightOnTree, RightOnWitness, RightUnder};
 
 use crate::certificates::{certify_sets, recheck_sets};
 use crate::input::Inputs;
@@ -21,6 +21,7 @@ use crate::refusal::{
     refuse_certificate, refuse_check, refuse_plainly, refuse_schema, refuse_syntax, refuse_task,
     refuse_tokens, refuse_yaml,
 };
+use crate::searching::seek_values;
 use crate::sequence::judge_sequence;
 use crate::sets::judge_sets;
 use crate::tokens::program_tokens;
@@ -109,7 +110,7 @@ fn judge_witness(
 }
 
 /// The output for the text of a program in a data model, and a witness about it: a certificate is made, or read, for
-/// invariant sets alone, and only they are weeded.
+/// invariant sets alone, and only they are weeded; values are sought for violation sequences alone.
 fn judge_model(
     alloc: Global,
     property: Property,
@@ -152,10 +153,35 @@ fn judge_model(
                 refuse_kind(alloc)
             }
         }
+        Purpose::Seek { turns, conflicts } => {
+            let work = Work::Seek { turns, conflicts };
+            judge_segments_alone(alloc, property, program, model, witness, work)
+        }
     }
 }
 
-/// The refusal of a witness without invariant sets.
+/// The output where something is to be done for violation sequences alone.
+fn judge_segments_alone(
+    alloc: Global,
+    property: Property,
+    program: &[u8],
+    model: DataModel,
+    witness: &Witness,
+    work: Work,
+) -> Result<Output, OutOfMemory>
+    requires program { length program.now ≤ 1048576 }
+    requires keys { HasShortKeys witness.now }
+    requires allowed { AllowsWork (planned work) }
+    ensures { IfOk result (RightOnSegmentsAlone (planned work) property program.now witness.now model) }
+{
+    if holds_sets(witness) {
+        refuse_kind(alloc)
+    } else {
+        judge_text(alloc, property, program, model, witness, work)
+    }
+}
+
+/// The refusal of a witness of the other kind.
 fn refuse_kind(alloc: Global) -> Result<Output, OutOfMemory>
     ensures { IfOk result IsKind }
 {
@@ -262,6 +288,7 @@ fn judge_checked(
         Work::Certify(conflicts) => certify_sets(alloc, program, witness, conflicts),
         Work::Recheck(logs) => recheck_sets(alloc, program, witness, &logs),
         Work::Weed(conflicts) => weed_sets(alloc, program, witness, conflicts),
+        Work::Seek { turns, conflicts } => seek_values(alloc, program, witness, turns, conflicts),
     }
 }
 

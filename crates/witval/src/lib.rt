@@ -14,6 +14,7 @@ mod keeping;
 mod output;
 mod purpose;
 mod refusal;
+mod searching;
 mod sequence;
 mod sets;
 mod shown;

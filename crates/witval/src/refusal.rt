@@ -3,7 +3,7 @@ ghost use Rattle.std.specs.Prelude.{◌≡◌, ◌++◌, ◌∷◌, [], IfOk, co
 ghost use Rattle.wv_report.specs.declared.reply.Reply.TheVariants as replies;
 ghost use Rattle.witval.specs.Authoring.{IsValuesRefusal};
 ghost use Rattle.witval.specs.Inputs.{certificate_word, source_word, word_of};
-ghost use Rattle.witval.specs.Refusals.{IsBindRefusal, IsCertificateRefusal, IsCheckRefusal, IsObligationRefusal, IsRefusal, IsSchemaRefusal, IsSyntaxRefusal, IsTaskRefusal, IsTokenRefusal, both_hashes, check_code, place_text, plain};
+ghost use Rattle.witval.specs.Refusals.{IsBindRefusal, IsCertificateRefusal, IsCheckRefusal, IsObligationRefusal, IsRefusal, IsSchemaRefusal, IsSearchRefusal, IsSyntaxRefusal, IsTaskRefusal, IsTokenRefusal, both_hashes, check_code, place_text, plain};
 ghost use Rattle.witval.specs.Replies.{too_long};
 
 use crate::input::File;
@@ -19,6 +19,7 @@ use wv_base::{OutOfMemory, Text};
 use wv_cert::CertFault;
 use wv_report::Reply;
 use wv_schema::SchemaFault;
+use wv_seek::SeekFault;
 use wv_task::TaskFault;
 use wv_yaml::{YamlFault, quote};
 
@@ -236,6 +237,16 @@ pub fn refuse_obligations(alloc: Global, fault: SymFault) -> Result<Reply, OutOf
         SymFault::Recursion(name) => refuse(alloc, "recursion", name),
         SymFault::TooBig => refuse_plainly(alloc, "weight"),
         SymFault::OutOfMemory => Err(OutOfMemory),
+    }
+}
+
+/// A program whose runs within a bound are too heavy.
+pub fn refuse_search(alloc: Global, fault: SeekFault) -> Result<Reply, OutOfMemory>
+    ensures { IfOk result (IsSearchRefusal fault) }
+{
+    match fault {
+        SeekFault::TooBig => refuse_plainly(alloc, "weight"),
+        SeekFault::OutOfMemory => Err(OutOfMemory),
     }
 }
 

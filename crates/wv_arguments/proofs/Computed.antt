@@ -12,6 +12,8 @@ reads_modes = record {
   rechecks = refl;
   authors = refl;
   weeds = refl;
+  seeks = refl;
+  seeks_plainly = refl;
 }
 
 pub refuses_words : RefusesWords
@@ -22,6 +24,8 @@ refuses_words = record {
   version = refl;
   unknown = refl;
   no_steps = refl;
+  no_turns = refl;
+  many_turns = refl;
   twice = refl;
   no_mode = refl;
   no_program = refl;

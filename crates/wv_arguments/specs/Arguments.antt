@@ -36,6 +36,10 @@ most_steps = 100000000
 abbrev pub most_conflicts : ℕ
 most_conflicts = 1000000
 
+-- the greatest bound on turns and calls
+abbrev pub most_turns : ℕ
+most_turns = 64
+
 -- the greatest number of a made program
 abbrev pub most_number : ℕ
 most_number = 999999
@@ -54,6 +58,7 @@ arguments =
     option_or (codes "time") (codes "2024-04-10T12:00:00Z") ∷
     number_or (codes "steps") 1 most_steps (codes "10000000") ∷
     number_or (codes "conflicts") 1 most_conflicts (codes "100000") ∷
+    number_or (codes "bound") 1 most_turns (codes "8") ∷
     number (codes "number") 0 most_number ∷
     flag (codes "json") ∷ []
 

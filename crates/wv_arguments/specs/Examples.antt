@@ -1,7 +1,7 @@
 -- Command lines of which what they ask for is computed.
 use Rattle.std.specs.Prelude.{◌≡◌, List, [], ◌∷◌, true, false, Some, None, codes}
 use Rattle.clap.specs.Words.{Text}
-use Rattle.wv_arguments.specs.Words.{Command, Sources, Label, Validate, Show, Demo, Certify, Recheck, Author, Weed, asked_by}
+use Rattle.wv_arguments.specs.Words.{Command, Sources, Label, Validate, Show, Demo, Certify, Recheck, Author, Weed, Seek, asked_by}
 
 abbrev pub validating : List Text
 validating = codes "witval" ∷ codes "validate" ∷ codes "--program" ∷ codes "p" ∷ codes "--property=q" ∷ codes "--witness" ∷ codes "w" ∷ []
@@ -24,7 +24,13 @@ authoring = codes "witval" ∷ codes "author" ∷ codes "--program=p" ∷ codes 
 abbrev pub weeding : List Text
 weeding = codes "witval" ∷ codes "weed" ∷ codes "--program=p" ∷ codes "--property=q" ∷ codes "--witness=w" ∷ codes "--json" ∷ []
 
--- the files of three of them
+abbrev pub seeking : List Text
+seeking = codes "witval" ∷ codes "seek" ∷ codes "--program=p" ∷ codes "--property=q" ∷ codes "--witness=w" ∷ codes "--bound" ∷ codes "64" ∷ codes "--conflicts=7" ∷ []
+
+abbrev pub seeking_plainly : List Text
+seeking_plainly = codes "witval" ∷ codes "seek" ∷ codes "--program=p" ∷ codes "--property=q" ∷ codes "--witness=w" ∷ []
+
+-- the files of five of them
 abbrev pub files : Command
 files = record { program = codes "p"; property = codes "q"; witness = codes "w" }
 
@@ -47,6 +53,8 @@ pub record ReadsModes : Type 0 where
   pub rechecks : asked_by rechecking ≡ record { wanted = Some (Recheck files (codes "c")); json = false }
   pub authors : asked_by authoring ≡ record { wanted = Some (Author sources label 11); json = false }
   pub weeds : asked_by weeding ≡ record { wanted = Some (Weed files 100000); json = true }
+  pub seeks : asked_by seeking ≡ record { wanted = Some (Seek files 64 7); json = false }
+  pub seeks_plainly : asked_by seeking_plainly ≡ record { wanted = Some (Seek files 8 100000); json = false }
 
 abbrev pub IsMisused : List Text → Type 0
 IsMisused words = asked_by words ≡ record { wanted = None; json = false }
@@ -58,6 +66,8 @@ pub record RefusesWords : Type 0 where
   pub version : IsMisused (codes "witval" ∷ codes "--version" ∷ [])
   pub unknown : IsMisused (codes "witval" ∷ codes "show" ∷ codes "--wit" ∷ codes "w" ∷ [])
   pub no_steps : IsMisused (codes "witval" ∷ codes "show" ∷ codes "--witness" ∷ codes "w" ∷ codes "--steps" ∷ codes "0" ∷ [])
+  pub no_turns : IsMisused (codes "witval" ∷ codes "seek" ∷ codes "--program=p" ∷ codes "--property=q" ∷ codes "--witness=w" ∷ codes "--bound=0" ∷ [])
+  pub many_turns : IsMisused (codes "witval" ∷ codes "seek" ∷ codes "--program=p" ∷ codes "--property=q" ∷ codes "--witness=w" ∷ codes "--bound=65" ∷ [])
   pub twice : IsMisused (codes "witval" ∷ codes "show" ∷ codes "--json" ∷ codes "--json" ∷ [])
   -- arguments that clap takes, but with a mode that isn't there, or without what the mode needs
   pub no_mode : asked_by (codes "witval" ∷ codes "judge" ∷ codes "--json" ∷ []) ≡ record { wanted = None; json = true }

@@ -1,7 +1,7 @@
 -- What requests, names and budgets stand for.
 use Rattle.std.specs.Prelude.{option_map}
 use Rattle.wv_arguments.specs.Words.{Command, Sources as Given, Label as Labelled, Budgets as Limits, Wanted, Asked as Stated}
-use Rattle.wv_arguments.specs.Words.{Validate, Show, Normalise, Demo, Certify, Recheck, Author, Weed}
+use Rattle.wv_arguments.specs.Words.{Validate, Show, Normalise, Demo, Certify, Recheck, Author, Weed, Seek}
 use Rattle.wv_arguments.specs.declared.request.Names.{Names}
 use Rattle.wv_arguments.specs.declared.request.Budgets.{Budgets}
 use Rattle.wv_arguments.specs.declared.request.Sources.{Sources}
@@ -31,6 +31,7 @@ wanted (request.Certify names conflicts) = Certify (named names) conflicts
 wanted (request.Recheck names certificate) = Recheck (named names) certificate.now
 wanted (request.Author sources label steps) = Author (given sources) (labelled label) steps
 wanted (request.Weed names conflicts) = Weed (named names) conflicts
+wanted (request.Seek names turns conflicts) = Seek (named names) turns conflicts
 
 abbrev pub stated : Asked → Stated
 stated asked = record { wanted = option_map wanted asked.request; json = asked.json }

@@ -6,7 +6,7 @@ use Rattle.clap.specs.Words.{Row, Text, fault_of, first_of, matches_of, one_of}
 use Rattle.clap.specs.Kinds.{Kinds}
 use Rattle.clap.specs.ValueTests.{accepts}
 use Rattle.clap.specs.declared.builder.value_parser.ValueParser.TheVariants.{Unsigned}
-use Rattle.wv_arguments.specs.Arguments.{command, most_steps, most_conflicts, most_number}
+use Rattle.wv_arguments.specs.Arguments.{command, most_steps, most_conflicts, most_turns, most_number}
 
 -- the names of the three files that are judged
 pub record Command : Type 0 where
@@ -33,7 +33,8 @@ pub record Label : Type 0 where
 
 -- a verdict; a summary of a witness by its name; its canonical form; a made program and its verdicts, by a number; a certificate, with
 -- the most clauses that the solver derives for an obligation; a certificate checked again, by its name; a violation witness, with the
--- most steps of its run; the invariants that hold up together, with the most clauses for an obligation
+-- most steps of its run; the invariants that hold up together, with the most clauses for an obligation; values for the open inputs of
+-- a violation witness, with the most turns of a loop and the most clauses
 pub data Wanted : Type 0 where
   Validate : Command → Budgets → Wanted
   Show : Text → Wanted
@@ -43,6 +44,7 @@ pub data Wanted : Type 0 where
   Recheck : Command → Text → Wanted
   Author : Sources → Label → ℕ → Wanted
   Weed : Command → ℕ → Wanted
+  Seek : Command → ℕ → ℕ → Wanted
 
 -- what is asked for, where the arguments ask for something, and whether reports are JSON
 pub record Asked : Type 0 where
@@ -114,6 +116,11 @@ abbrev pub weed_of : Option Command → Option ℕ → Option Wanted
 weed_of (Some command) (Some conflicts) = Some (Weed command conflicts)
 weed_of _ _ = None
 
+-- values need a bound and a budget of conflicts besides the files
+abbrev pub seek_of : Option Command → Option ℕ → Option ℕ → Option Wanted
+seek_of (Some command) (Some turns) (Some conflicts) = Some (Seek command turns conflicts)
+seek_of _ _ _ = None
+
 -- what clap's matches give
 abbrev pub mode_in : List Row → Text
 mode_in rows = unwrap_or (first_of (codes "mode") rows) []
@@ -142,6 +149,10 @@ steps_in rows = number_in 1 most_steps (one_of (codes "steps") rows)
 abbrev pub conflicts_in : List Row → Option ℕ
 conflicts_in rows = number_in 1 most_conflicts (one_of (codes "conflicts") rows)
 
+-- the bound on turns and calls
+abbrev pub turns_in : List Row → Option ℕ
+turns_in rows = number_in 1 most_turns (one_of (codes "bound") rows)
+
 -- the number of a made program
 abbrev pub made_number : List Row → Option ℕ
 made_number rows = number_in 0 most_number (one_of (codes "number") rows)
@@ -157,7 +168,8 @@ wanted_as mode rows =
     else (if bytes_eq mode (codes "recheck") then recheck_of (command_in rows) (first_of (codes "certificate") rows)
     else (if bytes_eq mode (codes "author") then author_of (sources_in rows) (label_in rows) (steps_in rows)
     else (if bytes_eq mode (codes "weed") then weed_of (command_in rows) (conflicts_in rows)
-    else None)))))))
+    else (if bytes_eq mode (codes "seek") then seek_of (command_in rows) (turns_in rows) (conflicts_in rows)
+    else None))))))))
 
 -- a flag was given
 abbrev pub is_set : Option Text → Bool

@@ -13,6 +13,9 @@ pub const MOST_STEPS: u64 = 100_000_000;
 /// The most that `--conflicts` takes.
 pub const MOST_CONFLICTS: u64 = 1_000_000;
 
+/// The most that `--bound` takes.
+pub const MOST_TURNS: u64 = 64;
+
 /// The most that `--number` takes.
 pub const MOST_NUMBER: u64 = 999_999;
 
@@ -74,6 +77,7 @@ pub fn command<'a>(alloc: Global) -> Result<Command<'a>, AllocError>
         .arg(option_or(alloc, "time", "2024-04-10T12:00:00Z"))?
         .arg(number_or(alloc, "steps", 1, MOST_STEPS, "10000000"))?
         .arg(number_or(alloc, "conflicts", 1, MOST_CONFLICTS, "100000"))?
+        .arg(number_or(alloc, "bound", 1, MOST_TURNS, "8"))?
         .arg(number(alloc, "number", 0, MOST_NUMBER))?
         .arg(flag(alloc, "json"))?;
     Ok(command)

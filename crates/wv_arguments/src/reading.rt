@@ -2,9 +2,9 @@
 ghost use Rattle.std.specs.Prelude.{◌≡◌, IfOk, codes, map, option_map, string_bytes};
 ghost use Rattle.clap.specs.Words.{first_of, found_of, one_of, rows_of};
 ghost use Rattle.wv_arguments.specs.Requests.{given, labelled, limits, named, stated, wanted};
-ghost use Rattle.wv_arguments.specs.Words.{asked_by, asked_in, budgets_in, command_in, is_set, label_in, mode_in, number_in, sources_in, steps_in, wanted_as, validate_of, demo_of, certify_of, recheck_of, author_of, weed_of, conflicts_in, made_number};
+ghost use Rattle.wv_arguments.specs.Words.{asked_by, asked_in, budgets_in, command_in, is_set, label_in, mode_in, number_in, sources_in, steps_in, wanted_as, validate_of, demo_of, certify_of, recheck_of, author_of, weed_of, seek_of, conflicts_in, turns_in, made_number};
 
-use crate::command::{MOST_CONFLICTS, MOST_NUMBER, MOST_STEPS, command};
+use crate::command::{MOST_CONFLICTS, MOST_NUMBER, MOST_STEPS, MOST_TURNS, command};
 use crate::request::{Asked, Budgets, Label, Names, Request, Sources};
 use clap::ArgMatches;
 use clap::error::ErrorKind;
@@ -148,6 +148,20 @@ fn weed<'a>(matches: &ArgMatches<'a>) -> Option<Request<'a>>
     })
 }
 
+fn seek<'a>(matches: &ArgMatches<'a>) -> Option<Request<'a>>
+    ensures { option_map wanted result ≡ seek_of (command_in (rows_of (found_of matches.now)))
+        (turns_in (rows_of (found_of matches.now))) (conflicts_in (rows_of (found_of matches.now))) }
+{
+    let names = names(matches)?;
+    let turns = number(matches, "bound", 1, MOST_TURNS)?;
+    let conflicts = number(matches, "conflicts", 1, MOST_CONFLICTS)?;
+    Some(Request::Seek {
+        names,
+        turns,
+        conflicts,
+    })
+}
+
 /// What a mode asks for.
 fn request<'a>(mode: &str, matches: &ArgMatches<'a>) -> Option<Request<'a>>
     ensures { option_map wanted result ≡ wanted_as mode.now (rows_of (found_of matches.now)) }
@@ -161,6 +175,7 @@ fn request<'a>(mode: &str, matches: &ArgMatches<'a>) -> Option<Request<'a>>
         "recheck" => recheck(matches),
         "author" => author(matches),
         "weed" => weed(matches),
+        "seek" => seek(matches),
         _ => None,
     }
 }

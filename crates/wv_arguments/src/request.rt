@@ -31,7 +31,8 @@ pub struct Budgets {
 
 /// A verdict; a summary of a witness, by its file's name; its canonical form; a made program with its verdicts, by a
 /// number; a certificate; a certificate checked again, by its file's name; a violation witness, by the values of a
-/// run's inputs; the invariants that hold up together.
+/// run's inputs; the invariants that hold up together; values for the open inputs of a violation witness, within a bound
+/// on turns of loops and nested calls.
 #[derive(Clone, Copy, Debug, PartialEq, Eq)]
 pub enum Request<'a> {
     Validate {
@@ -59,6 +60,11 @@ pub enum Request<'a> {
     },
     Weed {
         names: Names<'a>,
+        conflicts: u64,
+    },
+    Seek {
+        names: Names<'a>,
+        turns: u64,
         conflicts: u64,
     },
 }

@@ -13,7 +13,7 @@ use Rattle.c_meaning.specs.declared.verdict.Cause.TheVariants.{Steps}
 use Rattle.c_meaning.specs.declared.verdict.Reason.TheVariants.{Undefined}
 use Rattle.c_meaning.specs.declared.verdict.Verdict.TheVariants.{ViolationConfirmed, ViolationNot, CorrectnessConfirmed, CorrectnessNot, Undecided}
 use Rattle.wv_report.specs.Json.{json_of, reply_json, verdict_json, confirmed_json, unconfirmed_json, correct_json, incorrect_json, cause_json, refusal_json, fault_json, draw_json}
-use Rattle.wv_report.specs.Report.{text_of}
+use Rattle.wv_report.specs.Report.{found_text, text_of}
 use Rattle.wv_report.specs.declared.reply.Reply.TheVariants.{Verdict as Judged, Refused, ReadFault}
 
 abbrev at : ℕ → ℕ → Spot
@@ -26,6 +26,10 @@ confirmed_text : text_of (Judged (ViolationConfirmed (drawn (at 4 11) Int (pos 5
     ≡ codes "violation confirmed\nvalue 4:11 int 5\nsegment 1 event 2\nsegment 2 event 8\n"
 unfolding digits
 confirmed_text = refl
+
+found : found_text (drawn (at 4 11) Int (pos 5) ∷ []) (8 ∷ []) ≡ codes "values found\nvalue 4:11 int 5\nsegment 1 event 8\n"
+unfolding digits
+found = refl
 
 confirmed : json_of (Judged (ViolationConfirmed (drawn (at 4 11) Int (pos 5) ∷ []) (2 ∷ 8 ∷ [])))
     ≡ codes "{\"answer\":\"violation confirmed\",\"positions\":[2,8],\"values\":[{\"column\":11,\"line\":4,\"type\":\"int\",\"value\":5}]}\n"

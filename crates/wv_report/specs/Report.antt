@@ -59,6 +59,10 @@ abbrev pub segment_lines : ℕ → List ℕ → List ℕ
 segment_lines segment [] = []
 segment_lines segment (event ∷ events) = segment_line segment event ++ segment_lines (segment + 1) events
 
+-- values that were found, and below them the event of each segment
+abbrev pub found_text : List Draw → List ℕ → List ℕ
+found_text draws positions = line (codes "values found") ++ value_lines draws ++ segment_lines 1 positions
+
 -- why a violation isn't confirmed
 abbrev pub reason_text : Reason → List ℕ
 reason_text Ended = codes "ended"

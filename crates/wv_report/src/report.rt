@@ -1,13 +1,13 @@
 ghost use Rattle.std.specs.Prelude.{◌≡◌, ◌++◌, IfOk, OnOk, string_bytes};
 ghost use Rattle.wv_report.specs.Json.{HasJsonIntegers, json_of};
-ghost use Rattle.wv_report.specs.Report.{text_of, verdict_lines};
+ghost use Rattle.wv_report.specs.Report.{found_text, text_of, verdict_lines};
 
 use crate::Reply;
 use crate::lines::{
     add_obligation, add_reason_line, add_refusal, add_segments, add_undecided, add_values,
 };
 use crate::written::add_reply;
-use c_meaning::Verdict;
+use c_meaning::{Draw, Verdict};
 use std::alloc::Global;
 use wv_base::OutOfMemory;
 
@@ -36,6 +36,24 @@ pub fn json(alloc: Global, reply: &Reply) -> Result<Vec<u8>, OutOfMemory>
     let mut out = String::new(alloc);
     add_reply(alloc, &mut out, reply)?;
     out.push_str("\n")?;
+    Ok(out.into_bytes())
+}
+
+fn add_found(out: &mut String, draws: &[Draw], positions: &[u64]) -> Result<(), OutOfMemory>
+    ensures { OnOk result (string_bytes out.new ≡ string_bytes out.old ++ found_text draws.now positions.now) }
+{
+    out.push_str("values found\n")?;
+    add_values(out, draws)?;
+    add_segments(out, positions)?;
+    Ok(())
+}
+
+/// The lines of values that were found: each draw, and the event of each segment, numbered from 1.
+pub fn found(alloc: Global, draws: &[Draw], positions: &[u64]) -> Result<Vec<u8>, OutOfMemory>
+    ensures { IfOk result (λ bytes. bytes.items ≡ found_text draws.now positions.now) }
+{
+    let mut out = String::new(alloc);
+    add_found(&mut out, draws, positions)?;
     Ok(out.into_bytes())
 }
 

@@ -1,7 +1,7 @@
 use mir.Val.{SFits, to_z, of_z}
 use mir.Syntax.{w128}
 use Rattle.std.proofs.lemmas.Int.{to_z-of_z}
-use Rattle.std.proofs.Common.{rules, cond, ◌≡◌, ◌∙◌, refl, sym, ap, ap₂, subst, arith, None, Some, length, vec_len, IfOk, IsTrue, ◌+◌, ◌*◌, take, ◌<◌, ◌^◌, ◌-◌, false, get_or, map, not}
+use Rattle.std.proofs.Common.{rules, cond, suc, slice_get, ◌≡◌, ◌≤◌, ◌∙◌, refl, sym, ap, ap₂, subst, arith, None, Some, length, vec_len, IfOk, IsTrue, ◌+◌, ◌*◌, take, ◌<◌, ◌^◌, ◌-◌, false, get_or, map, not}
 use Rattle.c_core.specs.Operators.{type_for, op_of_step, is_prefix}
 use Rattle.c_core.specs.Tree.{Expr, Const, Var, Index, Unary, Cast, Step, Binary, Logic, Choose, Comma, Assign, Call, MoreExp, NoExp, Many, Rows, FirstNames, Return, Declare, Block, If, Label, OrElse, While, DoWhile, For, Switch}
 use Rattle.c_core.specs.View.{expr_view, exprs_view, node_view, init_view, names_view, rows_view, first_view, expr_view_if, form_view, stmt_view, stmts_view, function_view, switch_view}
@@ -9,20 +9,20 @@ use Rattle.c_core.specs.declared.number.IntType.TheVariants.{Int}
 use Rattle.c_core.specs.declared.tree.Callee.TheVariants.{Defined, Input, ReachError, Abort, Exit}
 use Rattle.c_core.proofs.View.{view_of_index, view_of_call, view_of_block, view_of_switch}
 use Rattle.c_core.specs.Types.{is_zero}
-use Rattle.c_meaning.specs.declared.run.Event.TheVariants.{Branch, Enter, Return as Returned}
+use Rattle.c_meaning.specs.declared.run.Event.TheVariants.{Branch}
 use Rattle.c_meaning.specs.declared.run.Way.TheVariants.{Truth}
-use Rattle.c_meaning.specs.Run.{way_for}
+use Rattle.c_meaning.specs.Run.{is_case, way_for}
 use Rattle.c_meaning.specs.Meaning.{Used, Unused, WhileLoop, DoLoop, ForLoop}
 use Rattle.c_meaning.specs.Objects.{type_of}
-use Rattle.sym_state.proofs.Nets.{unchanged, added_of, in_added, longer_by, state_grown}
+use Rattle.sym_state.proofs.Nets.{unchanged, added_of, in_added, longer_by, state_grown, typed_added, are_typed_added}
 use Rattle.sym_exprs.specs.Evaluating.{use_of, weight_of, Ready, Values}
 use Rattle.sym_exprs.specs.Targeting.{weight_of_target, TargetReady}
 use Rattle.sym_exprs.proofs.Typed.{unary_parts, cast_parts, binary_parts, comma_parts, logic_parts, choose_parts, assign_parts, step_parts, exit_counts}
 use Rattle.sym_exprs.proofs.Forms.{first_ready, next_ready, wanted, unary_side, unary_step, binary_sides, binary_step, void_values, cast_side, cast_step, comma_values}
-use Rattle.sym_exprs.proofs.Choosing.{kept_in, where_ready, where_values, logic_first, logic_where, logic_second, logic_bits, logic_step, pick_first, pick_yes, pick_yes_value, pick_no, pick_no_value, pick_last, pick_step, void_no, void_step}
+use Rattle.sym_exprs.proofs.Choosing.{kept_in, where_ready, where_values, logic_first, logic_where, logic_second, logic_bits, logic_step, pick_first, branched, branch_room, pick_yes, pick_yes_value, pick_no, pick_no_value, pick_last, pick_step, void_no, void_step}
 use Rattle.sym_exprs.proofs.Assigning.{assign_target, step_target, assign_value, replace_sides, replace_step, update_sides, update_last, update_step, step_sides, step_last, step_step}
-use Rattle.sym_exprs.proofs.Calls.{site_of, input_values, reach_values, abort_values, exit_ready, exit_room, exit_values}
-use Rattle.sym_invariants.specs.Walking.{program_of, mode_of, invariants_of}
+use Rattle.sym_exprs.proofs.Calls.{site_of, input_values, reach_values, abort_values, exit_ready, exit_values}
+use Rattle.sym_walk.specs.Walking.{program_of, mode_of}
 use Rattle.sym_eval.specs.Targets.{finding, finding_in, storing, Found}
 use Rattle.sym_eval.proofs.Nodes.{as_node, as_call, logic_alike, reach_alike, one_argument, one_counted}
 use Rattle.sym_eval.proofs.Found.{spent_target, spent_look, object_type, replace_cost, update_cost, target_kept, keys_kept, kept_twice, kept_thrice, stored_before, found_scalar, element_weighs, element_ready, element_type, element_room, element_values, index_ready, index_in, index_room, index_found, row_ready, column_ready, row_in, column_in, row_room, row_found}
@@ -35,15 +35,14 @@ use Rattle.circuits.specs.Net.{IsIn, opposite, holds}
 use Rattle.sym_weight.specs.Views.{else_of}
 use Rattle.sym_eval.proofs.Choices.{choose_runs}
 use Rattle.sym_eval.specs.Control.{weight_of_test, weight_of_step, TestIfReady, TestIfDoes, StepReady, StepDoes}
-use Rattle.sym_eval.specs.Looping.{weight_of_turn, TurnReady, TurnDoes, ForReady, ForDoes, LoopDoes}
-use Rattle.sym_eval.proofs.Deciding.{full_ready, full_gives, control_ready, control_bits, decides, test_ready, test_does, some_test_ready, no_test, some_step_ready, no_step, some_step}
+use Rattle.sym_eval.specs.Looping.{turn_glue, weight_of_turn, TurnReady, TurnDoes, weight_of_turns, TurnsReady, TurnsDo, LastDoes, weight_of_loop, LoopReady, ForReady, ForDoes, LoopDoes}
+use Rattle.sym_eval.proofs.Deciding.{full_ready, full_gives, control_ready, control_room, control_bits, decides, test_ready, test_does, some_test_ready, no_test, some_step_ready, no_step, some_step}
 use Rattle.sym_eval.proofs.Loopless.{no_loop}
-use Rattle.sym_eval.proofs.Turns.{stays_in, body_starts, body_ends, body_does, while_tests, while_goes_on, while_does, do_starts, do_tests, do_does, for_tests, for_goes_on, for_steps, for_turn_does, no_turn, head_room, turn_starts, head_room_again, outer_kept, loop_ends, loop_does, for_starts, for_arrives, for_does, for_ready, for_form, loop_ready, while_form, do_form, loop_within, for_within}
+use Rattle.sym_eval.proofs.Turns.{stays_in, body_starts, body_ends, body_does, while_tests, while_goes_on, while_does, do_starts, do_tests, do_does, for_tests, for_goes_on, for_steps, for_turn_does, no_turn, turn_within, head_room, turn_starts, head_room_again, outer_kept, loop_ends, loop_does, for_starts, for_arrives, for_does, for_ready, for_form, loop_ready, while_form, do_form, loop_within, for_within}
 use Rattle.sym_eval.specs.Calling.{AllValues, Sets, set_cost, CallReady, Called}
 use Rattle.sym_eval.proofs.Arguments.{argument_ready, first_values, next_values, argument_weight}
-use Rattle.sym_eval.proofs.Untold.{untold}
-use Rattle.sym_eval.proofs.Running.{entered_arguments, entered_room, body_ready, back_around, back_room, need_room, function_run}
-use Rattle.sym_eval.proofs.Reached.{ended_called, found_ready, found_called, arguments_ready, call_ready, call_values, found_weight}
+use Rattle.sym_eval.proofs.Running.{entered_arguments, entered_room, body_ready, back_around, back_room, told_in, told_room, need_in, need_room, function_run}
+use Rattle.sym_eval.proofs.Reached.{ended_called, found_ready, found_called, arguments_ready, call_ready, call_within, call_values, found_nodes}
 use Rattle.c_core.specs.Types.{promote_of}
 use Rattle.c_core.specs.Typing.{label_fits, labels_in}
 use Rattle.c_core.proofs.Promoted.{IsPromoted-promote_of}
@@ -51,7 +50,20 @@ use Rattle.circuits.specs.Numbers.{typed, AreIn}
 use Rattle.sym_choices.specs.Cases.{AreCases, cases_cost}
 use Rattle.sym_eval.specs.Switching.{ArmsDo, ArmReady, ArmDoes, ArmsReady}
 use Rattle.std.specs.List.{list_all}
-use Rattle.sym_eval.proofs.Switchable.{labels_many, chosen_by_ready, chosen_by_in, chosen_by_room, promoted_as, cases_room, entries_room, cases_many, chosen_chooses, arm_room, arm_starts, arm_still, arm_room_again, arm_last_in, arm_last_room, arm_does, arms_none, arms_part, arms_next, arms_on, switch_chooses, arms_start, switch_kept_in, switch_room, switch_does}
+use Rattle.sym_eval.proofs.Switchable.{labels_many, chosen_by_ready, chosen_by_in, chosen_by_room, promoted_as, cases_room, told_room, entries_room, cases_many, cases_then, cases_still, chosen_chooses, arm_room, arm_starts, arm_still, arm_room_again, arm_last_in, arm_last_room, arm_does, arms_none, arms_part, arms_next, arms_on, switch_chooses, arms_start, switch_kept_in, switch_room, switch_does}
+use Rattle.c_core.specs.declared.number.IntType.TheVariants.{Bool as BoolType}
+use Rattle.c_core.specs.Types.{width_of}
+use Rattle.c_meaning.specs.Placing.{placed_view}
+use Rattle.circuits.specs.Outcome.{conversion_cost}
+use Rattle.sym_exprs.proofs.Costs.{test_costs}
+use Rattle.sym_scale.specs.Cost.{nodes_in}
+use Rattle.sym_state.proofs.Telling.{told_as}
+use Rattle.sym_state.specs.Standing.{Turned}
+use Rattle.sym_state.specs.Telling.{telling}
+use Rattle.sym_walk.specs.Walking.{segments_of, mode_by, IsJudging}
+use Rattle.sym_walk.specs.declared.walk.Judging.TheVariants.{Obliges, Seeks}
+use Rattle.sym_weight.specs.Table.{params_of}
+use Rattle.sym_eval.proofs.Taken.{turn_first, turns_next, turns_more, last_test_room, turns_end, while_last, for_last, do_last, none_last, all_ready, all_room, turns_within, all_done}
 use Rattle.sym_eval.proofs.+walk.Goals as goal
 
 pub expressions::eval-constant-requires-clause-ready : goal.expressions::eval-constant-requires-clause-ready
@@ -231,7 +243,7 @@ expressions::unary-operate_one-requires-clause-room t c =
 
 pub expressions::unary-returns : goal.expressions::unary-returns
 expressions::unary-returns t c =
-    unary_step (program_of c.args.walk.now) (mode_of c.args.walk.now) c.args.depth c.args.at c.args.e.now.spot c.args.e.now.ty c.args.op (expr_view c.args.of.now) c.type_of.result c.type_of.ensures c.requires.ready c.in_ok-x.ensures (c.in_ok-r.ensures (mode_of c.args.walk.now) c.requires.ready.duty)
+    unary_step (program_of c.args.walk.now) (mode_of c.args.walk.now) c.args.depth c.args.at c.args.e.now.spot c.args.e.now.ty c.args.op (expr_view c.args.of.now) c.type_of.result c.type_of.ensures c.requires.ready c.in_ok-x.ensures c.in_ok-r.ensures
 
 pub expressions::binary-eval-requires : goal.expressions::binary-eval-requires
 expressions::binary-eval-requires t c =
@@ -259,7 +271,7 @@ expressions::binary-operate-requires-clause-room t c =
 
 pub expressions::binary-returns : goal.expressions::binary-returns
 expressions::binary-returns t c =
-    binary_step (program_of c.args.walk.now) (mode_of c.args.walk.now) c.args.depth c.args.at c.args.e.now.spot c.args.e.now.ty c.args.op (expr_view c.args.left.now) (expr_view c.args.right.now) c.type_of-a.result c.type_of-b.result c.type_of-a.ensures c.type_of-b.ensures c.requires.ready c.in_ok-x.ensures c.in_ok-y.ensures (c.in_ok-r.ensures (mode_of c.args.walk.now) c.requires.ready.duty)
+    binary_step (program_of c.args.walk.now) (mode_of c.args.walk.now) c.args.depth c.args.at c.args.e.now.spot c.args.e.now.ty c.args.op (expr_view c.args.left.now) (expr_view c.args.right.now) c.type_of-a.result c.type_of-b.result c.type_of-a.ensures c.type_of-b.ensures c.requires.ready c.in_ok-x.ensures c.in_ok-y.ensures c.in_ok-r.ensures
 
 pub expressions::cast-eval-requires : goal.expressions::cast-eval-requires
 expressions::cast-eval-requires t c =
@@ -416,45 +428,49 @@ expressions::pick-test-requires-clause-room t c =
 
 pub expressions::pick-eval_where-requires : goal.expressions::pick-eval_where-requires
 expressions::pick-eval_where-requires t c =
-    (omega (arith, c.decreases), (c.requires.walk, pick_yes (program_of c.args.walk.now) (mode_of c.args.walk.now) c.args.depth c.args.at c.args.spot c.args.mark (Some c.args.to) (expr_view c.args.condition.now) (expr_view c.args.yes.now) (expr_view c.args.no.now) c.type_of.result c.in_ok-go.go c.type_of.ensures c.requires.ready c.in_ok-e.ensures c.in_ok-go.ensures))
+    (omega (arith, c.decreases), (c.requires.walk, pick_yes (program_of c.args.walk.now) (mode_of c.args.walk.now) c.args.depth c.args.at c.args.spot c.args.mark (Some c.args.to) (expr_view c.args.condition.now) (expr_view c.args.yes.now) (expr_view c.args.no.now) c.type_of.result c.in_ok-go.go c.type_of.ensures c.requires.ready c.in_ok-e.ensures (branched (program_of c.args.walk.now) (mode_of c.args.walk.now) c.args.depth c.args.at c.args.mark c.type_of.result c.in_ok-go.go c.in_ok-go.ensures c.in_ok-tell_branch.ensures)))
 
 pub expressions::pick-convert-requires-clause-x_in : goal.expressions::pick-convert-requires-clause-x_in
 expressions::pick-convert-requires-clause-x_in t c =
-    (pick_yes_value (program_of c.args.walk.now) (mode_of c.args.walk.now) c.args.depth c.args.at c.args.spot c.args.mark c.args.to (expr_view c.args.condition.now) (expr_view c.args.yes.now) (expr_view c.args.no.now) c.type_of.result c.type_of-2.result c.in_ok-go.go c.type_of.ensures c.type_of-2.ensures c.requires.ready c.in_ok-e.ensures c.in_ok-go.ensures c.in_ok-x.ensures).0
+    (pick_yes_value (program_of c.args.walk.now) (mode_of c.args.walk.now) c.args.depth c.args.at c.args.spot c.args.mark c.args.to (expr_view c.args.condition.now) (expr_view c.args.yes.now) (expr_view c.args.no.now) c.type_of.result c.type_of-2.result c.in_ok-go.go c.type_of.ensures c.type_of-2.ensures c.requires.ready c.in_ok-e.ensures (branched (program_of c.args.walk.now) (mode_of c.args.walk.now) c.args.depth c.args.at c.args.mark c.type_of.result c.in_ok-go.go c.in_ok-go.ensures c.in_ok-tell_branch.ensures) c.in_ok-x.ensures).0
 
 pub expressions::pick-convert-requires-clause-room : goal.expressions::pick-convert-requires-clause-room
 expressions::pick-convert-requires-clause-room t c =
-    (pick_yes_value (program_of c.args.walk.now) (mode_of c.args.walk.now) c.args.depth c.args.at c.args.spot c.args.mark c.args.to (expr_view c.args.condition.now) (expr_view c.args.yes.now) (expr_view c.args.no.now) c.type_of.result c.type_of-2.result c.in_ok-go.go c.type_of.ensures c.type_of-2.ensures c.requires.ready c.in_ok-e.ensures c.in_ok-go.ensures c.in_ok-x.ensures).1
+    (pick_yes_value (program_of c.args.walk.now) (mode_of c.args.walk.now) c.args.depth c.args.at c.args.spot c.args.mark c.args.to (expr_view c.args.condition.now) (expr_view c.args.yes.now) (expr_view c.args.no.now) c.type_of.result c.type_of-2.result c.in_ok-go.go c.type_of.ensures c.type_of-2.ensures c.requires.ready c.in_ok-e.ensures (branched (program_of c.args.walk.now) (mode_of c.args.walk.now) c.args.depth c.args.at c.args.mark c.type_of.result c.in_ok-go.go c.in_ok-go.ensures c.in_ok-tell_branch.ensures) c.in_ok-x.ensures).1
 
 pub expressions::pick-eval_where-requires-2 : goal.expressions::pick-eval_where-requires-2
 expressions::pick-eval_where-requires-2 t c =
-    (omega (arith, c.decreases), (c.requires.walk, pick_no (program_of c.args.walk.now) (mode_of c.args.walk.now) c.args.depth c.args.at c.args.spot c.args.mark c.args.to (expr_view c.args.condition.now) (expr_view c.args.yes.now) (expr_view c.args.no.now) c.type_of.result c.type_of-2.result c.in_ok-go.go c.not-other.result c.type_of.ensures c.type_of-2.ensures c.not-other.ensures c.requires.ready c.in_ok-e.ensures c.in_ok-go.ensures c.in_ok-x.ensures c.in_ok-u.ensures))
+    (omega (arith, c.decreases), (c.requires.walk, pick_no (program_of c.args.walk.now) (mode_of c.args.walk.now) c.args.depth c.args.at c.args.spot c.args.mark c.args.to (expr_view c.args.condition.now) (expr_view c.args.yes.now) (expr_view c.args.no.now) c.type_of.result c.type_of-2.result c.in_ok-go.go c.not-other.result c.type_of.ensures c.type_of-2.ensures c.not-other.ensures c.requires.ready c.in_ok-e.ensures (branched (program_of c.args.walk.now) (mode_of c.args.walk.now) c.args.depth c.args.at c.args.mark c.type_of.result c.in_ok-go.go c.in_ok-go.ensures c.in_ok-tell_branch.ensures) c.in_ok-x.ensures c.in_ok-u.ensures))
 
 pub expressions::pick-convert-requires-2-clause-x_in : goal.expressions::pick-convert-requires-2-clause-x_in
 expressions::pick-convert-requires-2-clause-x_in t c =
-    (pick_no_value (program_of c.args.walk.now) (mode_of c.args.walk.now) c.args.depth c.args.at c.args.spot c.args.mark c.args.to (expr_view c.args.condition.now) (expr_view c.args.yes.now) (expr_view c.args.no.now) c.type_of.result c.type_of-2.result c.type_of-3.result c.in_ok-go.go c.not-other.result c.type_of.ensures c.type_of-2.ensures c.type_of-3.ensures c.requires.ready c.in_ok-e.ensures c.in_ok-go.ensures c.in_ok-x.ensures c.in_ok-u.ensures c.in_ok-y.ensures).0
+    (pick_no_value (program_of c.args.walk.now) (mode_of c.args.walk.now) c.args.depth c.args.at c.args.spot c.args.mark c.args.to (expr_view c.args.condition.now) (expr_view c.args.yes.now) (expr_view c.args.no.now) c.type_of.result c.type_of-2.result c.type_of-3.result c.in_ok-go.go c.not-other.result c.type_of.ensures c.type_of-2.ensures c.type_of-3.ensures c.requires.ready c.in_ok-e.ensures (branched (program_of c.args.walk.now) (mode_of c.args.walk.now) c.args.depth c.args.at c.args.mark c.type_of.result c.in_ok-go.go c.in_ok-go.ensures c.in_ok-tell_branch.ensures) c.in_ok-x.ensures c.in_ok-u.ensures c.in_ok-y.ensures).0
 
 pub expressions::pick-convert-requires-2-clause-room : goal.expressions::pick-convert-requires-2-clause-room
 expressions::pick-convert-requires-2-clause-room t c =
-    let r = (pick_no_value (program_of c.args.walk.now) (mode_of c.args.walk.now) c.args.depth c.args.at c.args.spot c.args.mark c.args.to (expr_view c.args.condition.now) (expr_view c.args.yes.now) (expr_view c.args.no.now) c.type_of.result c.type_of-2.result c.type_of-3.result c.in_ok-go.go c.not-other.result c.type_of.ensures c.type_of-2.ensures c.type_of-3.ensures c.requires.ready c.in_ok-e.ensures c.in_ok-go.ensures c.in_ok-x.ensures c.in_ok-u.ensures c.in_ok-y.ensures).1 in
+    let r = (pick_no_value (program_of c.args.walk.now) (mode_of c.args.walk.now) c.args.depth c.args.at c.args.spot c.args.mark c.args.to (expr_view c.args.condition.now) (expr_view c.args.yes.now) (expr_view c.args.no.now) c.type_of.result c.type_of-2.result c.type_of-3.result c.in_ok-go.go c.not-other.result c.type_of.ensures c.type_of-2.ensures c.type_of-3.ensures c.requires.ready c.in_ok-e.ensures (branched (program_of c.args.walk.now) (mode_of c.args.walk.now) c.args.depth c.args.at c.args.mark c.type_of.result c.in_ok-go.go c.in_ok-go.ensures c.in_ok-tell_branch.ensures) c.in_ok-x.ensures c.in_ok-u.ensures c.in_ok-y.ensures).1 in
     omega (arith, r)
 
 pub expressions::pick-choose-requires-clause-test_in : goal.expressions::pick-choose-requires-clause-test_in
 expressions::pick-choose-requires-clause-test_in t c =
-    (pick_last (program_of c.args.walk.now) (mode_of c.args.walk.now) c.args.depth c.args.at c.args.to (expr_view c.args.yes.now) (expr_view c.args.no.now) c.type_of-3.result c.in_ok-go.go c.not-other.result c.type_of-3.ensures c.in_ok-go.ensures.means.inside c.in_ok-x.ensures c.in_ok-u.ensures c.in_ok-y.ensures c.in_ok-w.ensures (pick_no_value (program_of c.args.walk.now) (mode_of c.args.walk.now) c.args.depth c.args.at c.args.spot c.args.mark c.args.to (expr_view c.args.condition.now) (expr_view c.args.yes.now) (expr_view c.args.no.now) c.type_of.result c.type_of-2.result c.type_of-3.result c.in_ok-go.go c.not-other.result c.type_of.ensures c.type_of-2.ensures c.type_of-3.ensures c.requires.ready c.in_ok-e.ensures c.in_ok-go.ensures c.in_ok-x.ensures c.in_ok-u.ensures c.in_ok-y.ensures).1).0
+    (pick_last (program_of c.args.walk.now) (mode_of c.args.walk.now) c.args.depth c.args.at c.args.to (expr_view c.args.yes.now) (expr_view c.args.no.now) c.type_of-3.result c.in_ok-go.go c.not-other.result c.type_of-3.ensures (branched (program_of c.args.walk.now) (mode_of c.args.walk.now) c.args.depth c.args.at c.args.mark c.type_of.result c.in_ok-go.go c.in_ok-go.ensures c.in_ok-tell_branch.ensures).inside c.in_ok-x.ensures c.in_ok-u.ensures c.in_ok-y.ensures c.in_ok-w.ensures (pick_no_value (program_of c.args.walk.now) (mode_of c.args.walk.now) c.args.depth c.args.at c.args.spot c.args.mark c.args.to (expr_view c.args.condition.now) (expr_view c.args.yes.now) (expr_view c.args.no.now) c.type_of.result c.type_of-2.result c.type_of-3.result c.in_ok-go.go c.not-other.result c.type_of.ensures c.type_of-2.ensures c.type_of-3.ensures c.requires.ready c.in_ok-e.ensures (branched (program_of c.args.walk.now) (mode_of c.args.walk.now) c.args.depth c.args.at c.args.mark c.type_of.result c.in_ok-go.go c.in_ok-go.ensures c.in_ok-tell_branch.ensures) c.in_ok-x.ensures c.in_ok-u.ensures c.in_ok-y.ensures).1).0
 
 pub expressions::pick-choose-requires-clause-yes_in : goal.expressions::pick-choose-requires-clause-yes_in
 expressions::pick-choose-requires-clause-yes_in t c =
-    (pick_last (program_of c.args.walk.now) (mode_of c.args.walk.now) c.args.depth c.args.at c.args.to (expr_view c.args.yes.now) (expr_view c.args.no.now) c.type_of-3.result c.in_ok-go.go c.not-other.result c.type_of-3.ensures c.in_ok-go.ensures.means.inside c.in_ok-x.ensures c.in_ok-u.ensures c.in_ok-y.ensures c.in_ok-w.ensures (pick_no_value (program_of c.args.walk.now) (mode_of c.args.walk.now) c.args.depth c.args.at c.args.spot c.args.mark c.args.to (expr_view c.args.condition.now) (expr_view c.args.yes.now) (expr_view c.args.no.now) c.type_of.result c.type_of-2.result c.type_of-3.result c.in_ok-go.go c.not-other.result c.type_of.ensures c.type_of-2.ensures c.type_of-3.ensures c.requires.ready c.in_ok-e.ensures c.in_ok-go.ensures c.in_ok-x.ensures c.in_ok-u.ensures c.in_ok-y.ensures).1).1
+    (pick_last (program_of c.args.walk.now) (mode_of c.args.walk.now) c.args.depth c.args.at c.args.to (expr_view c.args.yes.now) (expr_view c.args.no.now) c.type_of-3.result c.in_ok-go.go c.not-other.result c.type_of-3.ensures (branched (program_of c.args.walk.now) (mode_of c.args.walk.now) c.args.depth c.args.at c.args.mark c.type_of.result c.in_ok-go.go c.in_ok-go.ensures c.in_ok-tell_branch.ensures).inside c.in_ok-x.ensures c.in_ok-u.ensures c.in_ok-y.ensures c.in_ok-w.ensures (pick_no_value (program_of c.args.walk.now) (mode_of c.args.walk.now) c.args.depth c.args.at c.args.spot c.args.mark c.args.to (expr_view c.args.condition.now) (expr_view c.args.yes.now) (expr_view c.args.no.now) c.type_of.result c.type_of-2.result c.type_of-3.result c.in_ok-go.go c.not-other.result c.type_of.ensures c.type_of-2.ensures c.type_of-3.ensures c.requires.ready c.in_ok-e.ensures (branched (program_of c.args.walk.now) (mode_of c.args.walk.now) c.args.depth c.args.at c.args.mark c.type_of.result c.in_ok-go.go c.in_ok-go.ensures c.in_ok-tell_branch.ensures) c.in_ok-x.ensures c.in_ok-u.ensures c.in_ok-y.ensures).1).1
 
 pub expressions::pick-choose-requires-clause-room : goal.expressions::pick-choose-requires-clause-room
 expressions::pick-choose-requires-clause-room t c =
-    (pick_last (program_of c.args.walk.now) (mode_of c.args.walk.now) c.args.depth c.args.at c.args.to (expr_view c.args.yes.now) (expr_view c.args.no.now) c.type_of-3.result c.in_ok-go.go c.not-other.result c.type_of-3.ensures c.in_ok-go.ensures.means.inside c.in_ok-x.ensures c.in_ok-u.ensures c.in_ok-y.ensures c.in_ok-w.ensures (pick_no_value (program_of c.args.walk.now) (mode_of c.args.walk.now) c.args.depth c.args.at c.args.spot c.args.mark c.args.to (expr_view c.args.condition.now) (expr_view c.args.yes.now) (expr_view c.args.no.now) c.type_of.result c.type_of-2.result c.type_of-3.result c.in_ok-go.go c.not-other.result c.type_of.ensures c.type_of-2.ensures c.type_of-3.ensures c.requires.ready c.in_ok-e.ensures c.in_ok-go.ensures c.in_ok-x.ensures c.in_ok-u.ensures c.in_ok-y.ensures).1).2
+    (pick_last (program_of c.args.walk.now) (mode_of c.args.walk.now) c.args.depth c.args.at c.args.to (expr_view c.args.yes.now) (expr_view c.args.no.now) c.type_of-3.result c.in_ok-go.go c.not-other.result c.type_of-3.ensures (branched (program_of c.args.walk.now) (mode_of c.args.walk.now) c.args.depth c.args.at c.args.mark c.type_of.result c.in_ok-go.go c.in_ok-go.ensures c.in_ok-tell_branch.ensures).inside c.in_ok-x.ensures c.in_ok-u.ensures c.in_ok-y.ensures c.in_ok-w.ensures (pick_no_value (program_of c.args.walk.now) (mode_of c.args.walk.now) c.args.depth c.args.at c.args.spot c.args.mark c.args.to (expr_view c.args.condition.now) (expr_view c.args.yes.now) (expr_view c.args.no.now) c.type_of.result c.type_of-2.result c.type_of-3.result c.in_ok-go.go c.not-other.result c.type_of.ensures c.type_of-2.ensures c.type_of-3.ensures c.requires.ready c.in_ok-e.ensures (branched (program_of c.args.walk.now) (mode_of c.args.walk.now) c.args.depth c.args.at c.args.mark c.type_of.result c.in_ok-go.go c.in_ok-go.ensures c.in_ok-tell_branch.ensures) c.in_ok-x.ensures c.in_ok-u.ensures c.in_ok-y.ensures).1).2
+
+pub expressions::pick-tell_branch-requires-clause-room : goal.expressions::pick-tell_branch-requires-clause-room
+expressions::pick-tell_branch-requires-clause-room t c =
+    branch_room (program_of c.args.walk.now) (mode_of c.args.walk.now) c.args.depth c.args.at c.args.spot c.args.mark (Some c.args.to) (expr_view c.args.condition.now) (expr_view c.args.yes.now) (expr_view c.args.no.now) c.type_of.result c.in_ok-go.go c.type_of.ensures c.requires.ready c.in_ok-e.ensures c.in_ok-go.ensures
 
 pub expressions::pick-returns : goal.expressions::pick-returns
 expressions::pick-returns t c =
-    pick_step (program_of c.args.walk.now) (mode_of c.args.walk.now) c.args.depth c.args.at 0 c.args.spot c.args.mark c.args.to (expr_view c.args.condition.now) (expr_view c.args.yes.now) (expr_view c.args.no.now) c.type_of.result c.type_of-2.result c.type_of-3.result c.in_ok-go.go c.not-other.result c.type_of.ensures c.type_of-2.ensures c.type_of-3.ensures c.requires.ready c.in_ok-e.ensures c.in_ok-go.ensures c.not-other.ensures
-    (untold c.args.walk.now c.test.new.sym (λ v. Branch c.args.mark (Truth (not (is_zero (typed c.args.walk.now.program.now.model c.type_of.result v c.eval.new.sym.net c.in_ok-e.e.bits))))) c.in_ok-go.ensures.turned.fits) (omega arith)
+    pick_step (program_of c.args.walk.now) (mode_of c.args.walk.now) c.args.depth c.args.at ((mode_of c.args.walk.now).scale.test c.args.mark) c.args.spot c.args.mark c.args.to (expr_view c.args.condition.now) (expr_view c.args.yes.now) (expr_view c.args.no.now) c.type_of.result c.type_of-2.result c.type_of-3.result c.in_ok-go.go c.not-other.result c.type_of.ensures c.type_of-2.ensures c.type_of-3.ensures c.requires.ready c.in_ok-e.ensures c.in_ok-go.ensures c.not-other.ensures
+    (told_as (program_of c.args.walk.now) (mode_of c.args.walk.now) (λ v. Branch c.args.mark (Truth (not (is_zero (typed c.args.walk.now.program.now.model c.type_of.result v c.eval.new.sym.net c.in_ok-e.e.bits))))) c.in_ok-tell_branch.ensures (λ v. ap (λ t. Branch c.args.mark (Truth t)) (c.in_ok-go.ensures.means.is v))) (omega arith)
     c.in_ok-x.ensures c.in_ok-u.ensures c.in_ok-y.ensures c.in_ok-w.ensures c.in_ok-r.ensures
 
 pub expressions::void_arms-eval-requires : goal.expressions::void_arms-eval-requires
@@ -471,16 +487,20 @@ expressions::void_arms-test-requires-clause-room t c =
 
 pub expressions::void_arms-eval_where-requires : goal.expressions::void_arms-eval_where-requires
 expressions::void_arms-eval_where-requires t c =
-    (omega (arith, c.decreases), (c.requires.walk, pick_yes (program_of c.args.walk.now) (mode_of c.args.walk.now) c.args.depth c.args.at c.args.spot c.args.mark None (expr_view c.args.condition.now) (expr_view c.args.yes.now) (expr_view c.args.no.now) c.type_of.result c.in_ok-go.go c.type_of.ensures c.requires.ready c.in_ok-e.ensures c.in_ok-go.ensures))
+    (omega (arith, c.decreases), (c.requires.walk, pick_yes (program_of c.args.walk.now) (mode_of c.args.walk.now) c.args.depth c.args.at c.args.spot c.args.mark None (expr_view c.args.condition.now) (expr_view c.args.yes.now) (expr_view c.args.no.now) c.type_of.result c.in_ok-go.go c.type_of.ensures c.requires.ready c.in_ok-e.ensures (branched (program_of c.args.walk.now) (mode_of c.args.walk.now) c.args.depth c.args.at c.args.mark c.type_of.result c.in_ok-go.go c.in_ok-go.ensures c.in_ok-tell_branch.ensures)))
 
 pub expressions::void_arms-eval_where-requires-2 : goal.expressions::void_arms-eval_where-requires-2
 expressions::void_arms-eval_where-requires-2 t c =
-    (omega (arith, c.decreases), (c.requires.walk, void_no (program_of c.args.walk.now) (mode_of c.args.walk.now) c.args.depth c.args.at c.args.spot c.args.mark (expr_view c.args.condition.now) (expr_view c.args.yes.now) (expr_view c.args.no.now) c.type_of.result c.in_ok-go.go c.not-other.result c.type_of.ensures c.not-other.ensures c.requires.ready c.in_ok-e.ensures c.in_ok-go.ensures c.in_ok-_nothing.ensures))
+    (omega (arith, c.decreases), (c.requires.walk, void_no (program_of c.args.walk.now) (mode_of c.args.walk.now) c.args.depth c.args.at c.args.spot c.args.mark (expr_view c.args.condition.now) (expr_view c.args.yes.now) (expr_view c.args.no.now) c.type_of.result c.in_ok-go.go c.not-other.result c.type_of.ensures c.not-other.ensures c.requires.ready c.in_ok-e.ensures (branched (program_of c.args.walk.now) (mode_of c.args.walk.now) c.args.depth c.args.at c.args.mark c.type_of.result c.in_ok-go.go c.in_ok-go.ensures c.in_ok-tell_branch.ensures) c.in_ok-_nothing.ensures))
+
+pub expressions::void_arms-tell_branch-requires-clause-room : goal.expressions::void_arms-tell_branch-requires-clause-room
+expressions::void_arms-tell_branch-requires-clause-room t c =
+    branch_room (program_of c.args.walk.now) (mode_of c.args.walk.now) c.args.depth c.args.at c.args.spot c.args.mark None (expr_view c.args.condition.now) (expr_view c.args.yes.now) (expr_view c.args.no.now) c.type_of.result c.in_ok-go.go c.type_of.ensures c.requires.ready c.in_ok-e.ensures c.in_ok-go.ensures
 
 pub expressions::void_arms-returns : goal.expressions::void_arms-returns
 expressions::void_arms-returns t c =
-    void_step (program_of c.args.walk.now) (mode_of c.args.walk.now) c.args.depth c.args.at 0 c.args.spot c.args.mark (expr_view c.args.condition.now) (expr_view c.args.yes.now) (expr_view c.args.no.now) c.type_of.result c.in_ok-go.go c.not-other.result c.type_of.ensures c.requires.ready c.in_ok-e.ensures c.in_ok-go.ensures c.not-other.ensures
-    (untold c.args.walk.now c.test.new.sym (λ v. Branch c.args.mark (Truth (not (is_zero (typed c.args.walk.now.program.now.model c.type_of.result v c.eval.new.sym.net c.in_ok-e.e.bits))))) c.in_ok-go.ensures.turned.fits) (omega arith)
+    void_step (program_of c.args.walk.now) (mode_of c.args.walk.now) c.args.depth c.args.at ((mode_of c.args.walk.now).scale.test c.args.mark) c.args.spot c.args.mark (expr_view c.args.condition.now) (expr_view c.args.yes.now) (expr_view c.args.no.now) c.type_of.result c.in_ok-go.go c.not-other.result c.type_of.ensures c.requires.ready c.in_ok-e.ensures c.in_ok-go.ensures c.not-other.ensures
+    (told_as (program_of c.args.walk.now) (mode_of c.args.walk.now) (λ v. Branch c.args.mark (Truth (not (is_zero (typed c.args.walk.now.program.now.model c.type_of.result v c.eval.new.sym.net c.in_ok-e.e.bits))))) c.in_ok-tell_branch.ensures (λ v. ap (λ t. Branch c.args.mark (Truth t)) (c.in_ok-go.ensures.means.is v))) (omega arith)
     c.in_ok-_nothing.ensures c.in_ok-r.ensures
 
 pub expressions::call-call_defined-requires : goal.expressions::call-call_defined-requires
@@ -491,22 +511,51 @@ pub expressions::call-returns-in-Defined : goal.expressions::call-returns-in-Def
 expressions::call-returns-in-Defined t c =
     as_call (program_of c.args.walk.now) (mode_of c.args.walk.now) c.args.depth c.args.at c.args.sym.now c.call_defined.new.sym (use_of c.args.used) c.args.e.now.spot c.args.e.now.ty (Call c.args.callee (exprs_view c.args.args.now) c.args.close) (Call (Defined c.in-Defined.f) (exprs_view c.args.args.now) c.args.close) c.call_defined.result (ap (λ k. Call k (exprs_view c.args.args.now) c.args.close) c.in-Defined.is) c.call_defined.ensures
 
+pub expressions::call-tell_enter-requires-clause-room : goal.expressions::call-tell_enter-requires-clause-room
+expressions::call-tell_enter-requires-clause-room t c =
+    omega (arith, c.requires.ready.room)
+
+pub expressions::call-input-requires-clause-room : goal.expressions::call-input-requires-clause-room
+expressions::call-input-requires-clause-room t c =
+    omega (arith, (longer_by c.in_ok-tell_enter-in-Input.ensures.added).1, c.requires.ready.room)
+
+pub expressions::call-tell_value-requires-clause-fits : goal.expressions::call-tell_value-requires-clause-fits
+expressions::call-tell_value-requires-clause-fits t c =
+    (c.in_ok-r-in-Input.ensures (mode_of c.args.walk.now)).follows.fits
+
+pub expressions::call-tell_value-requires-clause-bits_in : goal.expressions::call-tell_value-requires-clause-bits_in
+expressions::call-tell_value-requires-clause-bits_in t c =
+    (c.in_ok-r-in-Input.ensures (mode_of c.args.walk.now)).bits_in
+
+pub expressions::call-tell_value-requires-clause-room : goal.expressions::call-tell_value-requires-clause-room
+expressions::call-tell_value-requires-clause-room t c =
+    let ready = subst (λ k. Ready (program_of c.args.walk.now) (mode_of c.args.walk.now) c.args.depth c.args.at c.args.sym.now (Expr c.args.e.now.spot c.args.e.now.ty (Call k (exprs_view c.args.args.now) c.args.close))) c.in-Input.is c.requires.ready in
+    omega (arith, (longer_by c.in_ok-tell_enter-in-Input.ensures.added).1, (longer_by (c.in_ok-r-in-Input.ensures (mode_of c.args.walk.now)).follows.added).1, ready.room)
+
+pub expressions::call-reach-requires-clause-room : goal.expressions::call-reach-requires-clause-room
+expressions::call-reach-requires-clause-room t c =
+    omega (arith, (longer_by c.in_ok-tell_enter-in-ReachError.ensures.added).1, c.requires.ready.room)
+
+pub expressions::call-end-requires-clause-room : goal.expressions::call-end-requires-clause-room
+expressions::call-end-requires-clause-room t c =
+    omega (arith, (longer_by c.in_ok-tell_enter-in-Abort.ensures.added).1, c.requires.ready.room)
+
 pub expressions::call-returns-in_ok-r-in-Input : goal.expressions::call-returns-in_ok-r-in-Input
 expressions::call-returns-in_ok-r-in-Input t c =
-    subst (λ k. Values (program_of c.args.walk.now) (mode_of c.args.walk.now) c.args.depth c.args.at (use_of c.args.used) (Expr c.args.e.now.spot c.args.e.now.ty (Call k (exprs_view c.args.args.now) c.args.close)) c.args.sym.now c.input.new.sym c.in_ok-r-in-Input.r.bits) (sym c.in-Input.is)
-    (wanted (program_of c.args.walk.now) (mode_of c.args.walk.now) c.args.depth c.args.at (use_of c.args.used) (Expr c.args.e.now.spot c.args.e.now.ty (Call (Input c.in-Input.of) (exprs_view c.args.args.now) c.args.close)) (λ v l. refl) (input_values (program_of c.args.walk.now) (mode_of c.args.walk.now) c.args.depth c.args.at 0 0 c.args.e.now.spot c.args.close c.args.e.now.ty c.in-Input.of (exprs_view c.args.args.now) (subst (λ k. Ready (program_of c.args.walk.now) (mode_of c.args.walk.now) c.args.depth c.args.at c.args.sym.now (Expr c.args.e.now.spot c.args.e.now.ty (Call k (exprs_view c.args.args.now) c.args.close))) c.in-Input.is c.requires.ready) (untold c.args.walk.now c.args.sym.now (λ v. Enter c.args.close) c.requires.ready.fits) (c.in_ok-r-in-Input.ensures (mode_of c.args.walk.now))
-    (untold c.args.walk.now c.input.new.sym (λ v. Returned c.args.close (Some (typed c.args.walk.now.program.now.model c.in-Input.of v c.input.new.sym.net c.in_ok-r-in-Input.r.bits))) (c.in_ok-r-in-Input.ensures (mode_of c.args.walk.now)).follows.fits) (omega arith)))
+    subst (λ k. Values (program_of c.args.walk.now) (mode_of c.args.walk.now) c.args.depth c.args.at (use_of c.args.used) (Expr c.args.e.now.spot c.args.e.now.ty (Call k (exprs_view c.args.args.now) c.args.close)) c.args.sym.now c.tell_value.new.sym c.in_ok-r-in-Input.r.bits) (sym c.in-Input.is)
+    (wanted (program_of c.args.walk.now) (mode_of c.args.walk.now) c.args.depth c.args.at (use_of c.args.used) (Expr c.args.e.now.spot c.args.e.now.ty (Call (Input c.in-Input.of) (exprs_view c.args.args.now) c.args.close)) (λ v l. refl) (input_values (program_of c.args.walk.now) (mode_of c.args.walk.now) c.args.depth c.args.at ((mode_of c.args.walk.now).scale.enters c.args.close) ((mode_of c.args.walk.now).scale.returns c.args.close) c.args.e.now.spot c.args.close c.args.e.now.ty c.in-Input.of (exprs_view c.args.args.now) (subst (λ k. Ready (program_of c.args.walk.now) (mode_of c.args.walk.now) c.args.depth c.args.at c.args.sym.now (Expr c.args.e.now.spot c.args.e.now.ty (Call k (exprs_view c.args.args.now) c.args.close))) c.in-Input.is c.requires.ready) c.in_ok-tell_enter-in-Input.ensures (c.in_ok-r-in-Input.ensures (mode_of c.args.walk.now))
+    c.in_ok-tell_value-in-Input.ensures (omega arith) (omega arith)))
 
 pub expressions::call-returns-in_ok-reach-in-ReachError : goal.expressions::call-returns-in_ok-reach-in-ReachError
 expressions::call-returns-in_ok-reach-in-ReachError t c =
     subst (λ k. Values (program_of c.args.walk.now) (mode_of c.args.walk.now) c.args.depth c.args.at (use_of c.args.used) (Expr c.args.e.now.spot c.args.e.now.ty (Call k (exprs_view c.args.args.now) c.args.close)) c.args.sym.now c.reach.new.sym c.new-bits.result) (sym c.in-ReachError.is)
-    (wanted (program_of c.args.walk.now) (mode_of c.args.walk.now) c.args.depth c.args.at (use_of c.args.used) (Expr c.args.e.now.spot c.args.e.now.ty (Call ReachError (exprs_view c.args.args.now) c.args.close)) (λ v l. reach_alike (program_of c.args.walk.now) (mode_of c.args.walk.now) c.args.depth c.args.at (use_of c.args.used) c.args.e.now.spot c.args.close c.args.e.now.ty (exprs_view c.args.args.now) v l) (reach_values (program_of c.args.walk.now) (mode_of c.args.walk.now) c.args.depth c.args.at 0 c.new-bits.result c.args.e.now.spot c.args.close c.args.e.now.ty (exprs_view c.args.args.now) (subst (λ k. Ready (program_of c.args.walk.now) (mode_of c.args.walk.now) c.args.depth c.args.at c.args.sym.now (Expr c.args.e.now.spot c.args.e.now.ty (Call k (exprs_view c.args.args.now) c.args.close))) c.in-ReachError.is c.requires.ready) (untold c.args.walk.now c.args.sym.now (λ v. Enter c.args.close) c.requires.ready.fits)
-    (c.in_ok-reach-in-ReachError.ensures (mode_of c.args.walk.now) (site_of (program_of c.args.walk.now) (mode_of c.args.walk.now) c.args.depth c.args.at c.args.e.now.spot c.args.close c.args.e.now.ty) c.requires.ready.duty) (omega arith)))
+    (wanted (program_of c.args.walk.now) (mode_of c.args.walk.now) c.args.depth c.args.at (use_of c.args.used) (Expr c.args.e.now.spot c.args.e.now.ty (Call ReachError (exprs_view c.args.args.now) c.args.close)) (λ v l. reach_alike (program_of c.args.walk.now) (mode_of c.args.walk.now) c.args.depth c.args.at (use_of c.args.used) c.args.e.now.spot c.args.close c.args.e.now.ty (exprs_view c.args.args.now) v l) (reach_values (program_of c.args.walk.now) (mode_of c.args.walk.now) c.args.depth c.args.at ((mode_of c.args.walk.now).scale.enters c.args.close) c.new-bits.result c.args.e.now.spot c.args.close c.args.e.now.ty (exprs_view c.args.args.now) (subst (λ k. Ready (program_of c.args.walk.now) (mode_of c.args.walk.now) c.args.depth c.args.at c.args.sym.now (Expr c.args.e.now.spot c.args.e.now.ty (Call k (exprs_view c.args.args.now) c.args.close))) c.in-ReachError.is c.requires.ready) c.in_ok-tell_enter-in-ReachError.ensures
+    (c.in_ok-reach-in-ReachError.ensures (site_of (program_of c.args.walk.now) (mode_of c.args.walk.now) c.args.depth c.args.at c.args.e.now.spot c.args.close c.args.e.now.ty) refl) (omega arith)))
 
 pub expressions::call-returns-in_ok-end-in-Abort : goal.expressions::call-returns-in_ok-end-in-Abort
 expressions::call-returns-in_ok-end-in-Abort t c =
     subst (λ k. Values (program_of c.args.walk.now) (mode_of c.args.walk.now) c.args.depth c.args.at (use_of c.args.used) (Expr c.args.e.now.spot c.args.e.now.ty (Call k (exprs_view c.args.args.now) c.args.close)) c.args.sym.now c.end.new.sym c.new-bits-in-Abort.result) (sym c.in-Abort.is)
-    (wanted (program_of c.args.walk.now) (mode_of c.args.walk.now) c.args.depth c.args.at (use_of c.args.used) (Expr c.args.e.now.spot c.args.e.now.ty (Call Abort (exprs_view c.args.args.now) c.args.close)) (λ v l. refl) (abort_values (program_of c.args.walk.now) (mode_of c.args.walk.now) c.args.depth c.args.at 0 c.new-bits-in-Abort.result c.args.e.now.spot c.args.close c.args.e.now.ty (exprs_view c.args.args.now) (subst (λ k. Ready (program_of c.args.walk.now) (mode_of c.args.walk.now) c.args.depth c.args.at c.args.sym.now (Expr c.args.e.now.spot c.args.e.now.ty (Call k (exprs_view c.args.args.now) c.args.close))) c.in-Abort.is c.requires.ready) (untold c.args.walk.now c.args.sym.now (λ v. Enter c.args.close) c.requires.ready.fits) (c.in_ok-end-in-Abort.ensures (mode_of c.args.walk.now)) (omega arith)))
+    (wanted (program_of c.args.walk.now) (mode_of c.args.walk.now) c.args.depth c.args.at (use_of c.args.used) (Expr c.args.e.now.spot c.args.e.now.ty (Call Abort (exprs_view c.args.args.now) c.args.close)) (λ v l. refl) (abort_values (program_of c.args.walk.now) (mode_of c.args.walk.now) c.args.depth c.args.at ((mode_of c.args.walk.now).scale.enters c.args.close) c.new-bits-in-Abort.result c.args.e.now.spot c.args.close c.args.e.now.ty (exprs_view c.args.args.now) (subst (λ k. Ready (program_of c.args.walk.now) (mode_of c.args.walk.now) c.args.depth c.args.at c.args.sym.now (Expr c.args.e.now.spot c.args.e.now.ty (Call k (exprs_view c.args.args.now) c.args.close))) c.in-Abort.is c.requires.ready) c.in_ok-tell_enter-in-Abort.ensures (c.in_ok-end-in-Abort.ensures (mode_of c.args.walk.now)) (omega arith)))
 
 pub expressions::call-exit-requires : goal.expressions::call-exit-requires
 expressions::call-exit-requires t c =
@@ -528,19 +577,26 @@ expressions::exit-eval-requires t c =
     let ready = subst (λ k. Ready (program_of c.args.walk.now) (mode_of c.args.walk.now) c.args.depth c.args.at c.args.sym.now (Expr c.args.e.now.spot c.args.e.now.ty (Call Exit k c.args.close))) one c.requires.ready in
     (omega (arith, c.decreases, ap (λ k. weight_of (program_of c.args.walk.now) (mode_of c.args.walk.now) c.args.depth (Expr c.args.e.now.spot c.args.e.now.ty (Call Exit k c.args.close))) one), (c.requires.walk, exit_ready (program_of c.args.walk.now) (mode_of c.args.walk.now) c.args.depth c.args.at c.args.e.now.spot c.args.close c.args.e.now.ty (expr_view c.index-args-0.result) ready))
 
+pub expressions::exit-tell_enter-requires-clause-room : goal.expressions::exit-tell_enter-requires-clause-room
+expressions::exit-tell_enter-requires-clause-room t c =
+    let counted = exit_counts (program_of c.args.walk.now) c.args.e.now.spot c.args.close c.args.e.now.ty (exprs_view c.args.args.now) c.requires.ready.types in
+    let one : exprs_view c.args.args.now ≡ MoreExp (expr_view c.index-args-0.result) NoExp = one_argument c.args.args.now c.index-args-0.result counted ∙ ap (λ x. MoreExp (expr_view x) NoExp) (sym c.index-args-0.is) in
+    let ready = subst (λ k. Ready (program_of c.args.walk.now) (mode_of c.args.walk.now) c.args.depth c.args.at c.args.sym.now (Expr c.args.e.now.spot c.args.e.now.ty (Call Exit k c.args.close))) one c.requires.ready in
+    omega (arith, (longer_by c.in_ok-r.ensures.follows.added).1, ready.room)
+
 pub expressions::exit-end-requires-clause-room : goal.expressions::exit-end-requires-clause-room
 expressions::exit-end-requires-clause-room t c =
     let counted = exit_counts (program_of c.args.walk.now) c.args.e.now.spot c.args.close c.args.e.now.ty (exprs_view c.args.args.now) c.requires.ready.types in
     let one : exprs_view c.args.args.now ≡ MoreExp (expr_view c.index-args-0.result) NoExp = one_argument c.args.args.now c.index-args-0.result counted ∙ ap (λ x. MoreExp (expr_view x) NoExp) (sym c.index-args-0.is) in
     let ready = subst (λ k. Ready (program_of c.args.walk.now) (mode_of c.args.walk.now) c.args.depth c.args.at c.args.sym.now (Expr c.args.e.now.spot c.args.e.now.ty (Call Exit k c.args.close))) one c.requires.ready in
-    exit_room (program_of c.args.walk.now) (mode_of c.args.walk.now) c.args.depth c.args.at c.args.e.now.spot c.args.close c.args.e.now.ty (expr_view c.index-args-0.result) ready c.in_ok-r.ensures
+    omega (arith, (longer_by c.in_ok-r.ensures.follows.added).1, (longer_by c.in_ok-tell_enter.ensures.added).1, ready.room)
 
 pub expressions::exit-returns : goal.expressions::exit-returns
 expressions::exit-returns t c =
     let counted = exit_counts (program_of c.args.walk.now) c.args.e.now.spot c.args.close c.args.e.now.ty (exprs_view c.args.args.now) c.requires.ready.types in
     let one : exprs_view c.args.args.now ≡ MoreExp (expr_view c.index-args-0.result) NoExp = one_argument c.args.args.now c.index-args-0.result counted ∙ ap (λ x. MoreExp (expr_view x) NoExp) (sym c.index-args-0.is) in
     let ready = subst (λ k. Ready (program_of c.args.walk.now) (mode_of c.args.walk.now) c.args.depth c.args.at c.args.sym.now (Expr c.args.e.now.spot c.args.e.now.ty (Call Exit k c.args.close))) one c.requires.ready in
-    subst (λ k. Values (program_of c.args.walk.now) (mode_of c.args.walk.now) c.args.depth c.args.at Used (Expr c.args.e.now.spot c.args.e.now.ty (Call Exit k c.args.close)) c.args.sym.now c.end.new.sym c.in_ok-r.r.bits) (sym one) (exit_values (program_of c.args.walk.now) (mode_of c.args.walk.now) c.args.depth c.args.at 0 c.in_ok-r.r.bits c.args.e.now.spot c.args.close c.args.e.now.ty (expr_view c.index-args-0.result) ready c.in_ok-r.ensures (untold c.args.walk.now c.eval.new.sym (λ v. Enter c.args.close) c.in_ok-r.ensures.follows.fits) (c.in_ok-end.ensures (mode_of c.args.walk.now)) (omega arith))
+    subst (λ k. Values (program_of c.args.walk.now) (mode_of c.args.walk.now) c.args.depth c.args.at Used (Expr c.args.e.now.spot c.args.e.now.ty (Call Exit k c.args.close)) c.args.sym.now c.end.new.sym c.in_ok-r.r.bits) (sym one) (exit_values (program_of c.args.walk.now) (mode_of c.args.walk.now) c.args.depth c.args.at ((mode_of c.args.walk.now).scale.enters c.args.close) c.in_ok-r.r.bits c.args.e.now.spot c.args.close c.args.e.now.ty (expr_view c.index-args-0.result) ready c.in_ok-r.ensures c.in_ok-tell_enter.ensures (c.in_ok-end.ensures (mode_of c.args.walk.now)) (omega arith))
 
 pub assignments::target-indexed-requires : goal.assignments::target-indexed-requires
 assignments::target-indexed-requires t c =
@@ -689,7 +745,7 @@ assignments::update-operate-requires-clause-room t c =
     (update_sides (program_of c.args.walk.now) (mode_of c.args.walk.now) c.args.depth c.args.at c.args.e.now.spot c.args.e.now.ty c.args.op (expr_view c.args.to.now) (expr_view c.args.from.now) c.type_of-a.result c.type_of-b.result c.type_of-a.ensures c.type_of-b.ensures c.requires.ready c.in_ok-cell.ensures.targets look c.in_ok-y.ensures (omega (arith, few))).2
 
 pub assignments::update-store_target-requires-clause-fits : goal.assignments::update-store_target-requires-clause-fits
-assignments::update-store_target-requires-clause-fits t c = (c.in_ok-z.ensures (mode_of c.args.walk.now) c.requires.ready.duty).follows.fits
+assignments::update-store_target-requires-clause-fits t c = c.in_ok-z.ensures.follows.fits
 
 pub assignments::update-store_target-requires-clause-typed : goal.assignments::update-store_target-requires-clause-typed
 assignments::update-store_target-requires-clause-typed t c =
@@ -699,7 +755,7 @@ assignments::update-store_target-requires-clause-typed t c =
 pub assignments::update-store_target-requires-clause-is : goal.assignments::update-store_target-requires-clause-is
 assignments::update-store_target-requires-clause-is t c =
     let look = c.in_ok-x.ensures (mode_of c.args.walk.now) in
-    let done = c.in_ok-z.ensures (mode_of c.args.walk.now) c.requires.ready.duty in
+    let done = c.in_ok-z.ensures in
     let kept = kept_thrice (program_of c.args.walk.now) (mode_of c.args.walk.now) c.in_ok-cell.cell c.in_ok-cell.ensures.is look.follows c.in_ok-y.ensures.follows done.follows in
     kept.0
 
@@ -707,7 +763,7 @@ pub assignments::update-store_target-requires-clause-value_in : goal.assignments
 assignments::update-store_target-requires-clause-value_in t c =
     let q = assign_parts (program_of c.args.walk.now) c.args.e.now.spot c.args.e.now.ty (Some c.args.op) (expr_view c.args.to.now) (expr_view c.args.from.now) c.requires.ready.types in
     let look = c.in_ok-x.ensures (mode_of c.args.walk.now) in
-    let done = c.in_ok-z.ensures (mode_of c.args.walk.now) c.requires.ready.duty in
+    let done = c.in_ok-z.ensures in
     let tc : c.type_for-c.result ≡ type_for (program_of c.args.walk.now).model c.args.op (type_of (expr_view c.args.to.now)) (type_of (expr_view c.args.from.now)) = c.type_for-c.ensures.value ∙ ap₂ (λ i j. type_for (program_of c.args.walk.now).model c.args.op i j) c.type_of-a.ensures c.type_of-b.ensures in
     let cost = update_cost (program_of c.args.walk.now) (expr_view c.args.to.now) c.in_ok-cell.cell c.type_for-c.result (type_for (program_of c.args.walk.now).model c.args.op (type_of (expr_view c.args.to.now)) (type_of (expr_view c.args.from.now))) tc c.in_ok-cell.ensures.meant q.target q.typed_target in
     (update_last (program_of c.args.walk.now) (mode_of c.args.walk.now) c.args.depth c.args.at (storing (program_of c.args.walk.now) c.type_for-c.result c.in_ok-cell.cell) c.args.e.now.spot c.args.e.now.ty c.args.op (expr_view c.args.to.now) (expr_view c.args.from.now) c.type_of-a.result c.type_of-b.result c.type_for-c.result c.type_of-a.ensures c.type_of-b.ensures c.type_for-c.ensures.value c.requires.ready c.in_ok-cell.ensures.targets look c.in_ok-y.ensures done cost).0
@@ -716,7 +772,7 @@ pub assignments::update-store_target-requires-clause-room : goal.assignments::up
 assignments::update-store_target-requires-clause-room t c =
     let q = assign_parts (program_of c.args.walk.now) c.args.e.now.spot c.args.e.now.ty (Some c.args.op) (expr_view c.args.to.now) (expr_view c.args.from.now) c.requires.ready.types in
     let look = c.in_ok-x.ensures (mode_of c.args.walk.now) in
-    let done = c.in_ok-z.ensures (mode_of c.args.walk.now) c.requires.ready.duty in
+    let done = c.in_ok-z.ensures in
     let tc : c.type_for-c.result ≡ type_for (program_of c.args.walk.now).model c.args.op (type_of (expr_view c.args.to.now)) (type_of (expr_view c.args.from.now)) = c.type_for-c.ensures.value ∙ ap₂ (λ i j. type_for (program_of c.args.walk.now).model c.args.op i j) c.type_of-a.ensures c.type_of-b.ensures in
     let cost = update_cost (program_of c.args.walk.now) (expr_view c.args.to.now) c.in_ok-cell.cell c.type_for-c.result (type_for (program_of c.args.walk.now).model c.args.op (type_of (expr_view c.args.to.now)) (type_of (expr_view c.args.from.now))) tc c.in_ok-cell.ensures.meant q.target q.typed_target in
     (update_last (program_of c.args.walk.now) (mode_of c.args.walk.now) c.args.depth c.args.at (storing (program_of c.args.walk.now) c.type_for-c.result c.in_ok-cell.cell) c.args.e.now.spot c.args.e.now.ty c.args.op (expr_view c.args.to.now) (expr_view c.args.from.now) c.type_of-a.result c.type_of-b.result c.type_for-c.result c.type_of-a.ensures c.type_of-b.ensures c.type_for-c.ensures.value c.requires.ready c.in_ok-cell.ensures.targets look c.in_ok-y.ensures done cost).1
@@ -725,7 +781,7 @@ pub assignments::update-returns : goal.assignments::update-returns
 assignments::update-returns t c =
     let q = assign_parts (program_of c.args.walk.now) c.args.e.now.spot c.args.e.now.ty (Some c.args.op) (expr_view c.args.to.now) (expr_view c.args.from.now) c.requires.ready.types in
     let look = c.in_ok-x.ensures (mode_of c.args.walk.now) in
-    let done = c.in_ok-z.ensures (mode_of c.args.walk.now) c.requires.ready.duty in
+    let done = c.in_ok-z.ensures in
     let tc : c.type_for-c.result ≡ type_for (program_of c.args.walk.now).model c.args.op (type_of (expr_view c.args.to.now)) (type_of (expr_view c.args.from.now)) = c.type_for-c.ensures.value ∙ ap₂ (λ i j. type_for (program_of c.args.walk.now).model c.args.op i j) c.type_of-a.ensures c.type_of-b.ensures in
     let cost = update_cost (program_of c.args.walk.now) (expr_view c.args.to.now) c.in_ok-cell.cell c.type_for-c.result (type_for (program_of c.args.walk.now).model c.args.op (type_of (expr_view c.args.to.now)) (type_of (expr_view c.args.from.now))) tc c.in_ok-cell.ensures.meant q.target q.typed_target in
     let kept = kept_thrice (program_of c.args.walk.now) (mode_of c.args.walk.now) c.in_ok-cell.cell c.in_ok-cell.ensures.is look.follows c.in_ok-y.ensures.follows done.follows in
@@ -758,7 +814,7 @@ assignments::step-operate-requires-clause-room t c =
     step_sides (program_of c.args.walk.now) (mode_of c.args.walk.now) c.args.depth c.args.at c.args.e.now.spot c.args.e.now.ty c.args.op (expr_view c.args.to.now) c.type_of-a.result c.op_of_step-by.result c.type_of-a.ensures c.op_of_step-by.ensures c.requires.ready c.in_ok-cell.ensures.targets look (omega (arith, few))
 
 pub assignments::step-store_target-requires-clause-fits : goal.assignments::step-store_target-requires-clause-fits
-assignments::step-store_target-requires-clause-fits t c = (c.in_ok-z.ensures (mode_of c.args.walk.now) c.requires.ready.duty).follows.fits
+assignments::step-store_target-requires-clause-fits t c = c.in_ok-z.ensures.follows.fits
 
 pub assignments::step-store_target-requires-clause-typed : goal.assignments::step-store_target-requires-clause-typed
 assignments::step-store_target-requires-clause-typed t c =
@@ -768,7 +824,7 @@ assignments::step-store_target-requires-clause-typed t c =
 pub assignments::step-store_target-requires-clause-is : goal.assignments::step-store_target-requires-clause-is
 assignments::step-store_target-requires-clause-is t c =
     let look = c.in_ok-x.ensures (mode_of c.args.walk.now) in
-    let done = c.in_ok-z.ensures (mode_of c.args.walk.now) c.requires.ready.duty in
+    let done = c.in_ok-z.ensures in
     let kept = kept_twice (program_of c.args.walk.now) (mode_of c.args.walk.now) c.in_ok-cell.cell c.in_ok-cell.ensures.is look.follows done.follows in
     kept.0
 
@@ -776,7 +832,7 @@ pub assignments::step-store_target-requires-clause-value_in : goal.assignments::
 assignments::step-store_target-requires-clause-value_in t c =
     let q = step_parts (program_of c.args.walk.now) c.args.e.now.spot c.args.e.now.ty c.args.op (expr_view c.args.to.now) c.requires.ready.types in
     let look = c.in_ok-x.ensures (mode_of c.args.walk.now) in
-    let done = c.in_ok-z.ensures (mode_of c.args.walk.now) c.requires.ready.duty in
+    let done = c.in_ok-z.ensures in
     let tc : c.type_for-c.result ≡ type_for (program_of c.args.walk.now).model (op_of_step c.args.op) (type_of (expr_view c.args.to.now)) Int = c.type_for-c.ensures.value ∙ ap₂ (λ i j. type_for (program_of c.args.walk.now).model i j Int) c.op_of_step-by.ensures c.type_of-a.ensures in
     let cost = update_cost (program_of c.args.walk.now) (expr_view c.args.to.now) c.in_ok-cell.cell c.type_for-c.result (type_for (program_of c.args.walk.now).model (op_of_step c.args.op) (type_of (expr_view c.args.to.now)) Int) tc c.in_ok-cell.ensures.meant q.0 q.2 in
     (step_last (program_of c.args.walk.now) (mode_of c.args.walk.now) c.args.depth c.args.at (storing (program_of c.args.walk.now) c.type_for-c.result c.in_ok-cell.cell) c.args.e.now.spot c.args.e.now.ty c.args.op (expr_view c.args.to.now) c.type_of-a.result c.type_for-c.result c.op_of_step-by.result c.type_of-a.ensures c.op_of_step-by.ensures c.type_for-c.ensures.value c.requires.ready c.in_ok-cell.ensures.targets look done cost).0
@@ -785,7 +841,7 @@ pub assignments::step-store_target-requires-clause-room : goal.assignments::step
 assignments::step-store_target-requires-clause-room t c =
     let q = step_parts (program_of c.args.walk.now) c.args.e.now.spot c.args.e.now.ty c.args.op (expr_view c.args.to.now) c.requires.ready.types in
     let look = c.in_ok-x.ensures (mode_of c.args.walk.now) in
-    let done = c.in_ok-z.ensures (mode_of c.args.walk.now) c.requires.ready.duty in
+    let done = c.in_ok-z.ensures in
     let tc : c.type_for-c.result ≡ type_for (program_of c.args.walk.now).model (op_of_step c.args.op) (type_of (expr_view c.args.to.now)) Int = c.type_for-c.ensures.value ∙ ap₂ (λ i j. type_for (program_of c.args.walk.now).model i j Int) c.op_of_step-by.ensures c.type_of-a.ensures in
     let cost = update_cost (program_of c.args.walk.now) (expr_view c.args.to.now) c.in_ok-cell.cell c.type_for-c.result (type_for (program_of c.args.walk.now).model (op_of_step c.args.op) (type_of (expr_view c.args.to.now)) Int) tc c.in_ok-cell.ensures.meant q.0 q.2 in
     (step_last (program_of c.args.walk.now) (mode_of c.args.walk.now) c.args.depth c.args.at (storing (program_of c.args.walk.now) c.type_for-c.result c.in_ok-cell.cell) c.args.e.now.spot c.args.e.now.ty c.args.op (expr_view c.args.to.now) c.type_of-a.result c.type_for-c.result c.op_of_step-by.result c.type_of-a.ensures c.op_of_step-by.ensures c.type_for-c.ensures.value c.requires.ready c.in_ok-cell.ensures.targets look done cost).1
@@ -794,7 +850,7 @@ pub assignments::step-returns : goal.assignments::step-returns
 assignments::step-returns t c =
     let q = step_parts (program_of c.args.walk.now) c.args.e.now.spot c.args.e.now.ty c.args.op (expr_view c.args.to.now) c.requires.ready.types in
     let look = c.in_ok-x.ensures (mode_of c.args.walk.now) in
-    let done = c.in_ok-z.ensures (mode_of c.args.walk.now) c.requires.ready.duty in
+    let done = c.in_ok-z.ensures in
     let tc : c.type_for-c.result ≡ type_for (program_of c.args.walk.now).model (op_of_step c.args.op) (type_of (expr_view c.args.to.now)) Int = c.type_for-c.ensures.value ∙ ap₂ (λ i j. type_for (program_of c.args.walk.now).model i j Int) c.op_of_step-by.ensures c.type_of-a.ensures in
     let cost = update_cost (program_of c.args.walk.now) (expr_view c.args.to.now) c.in_ok-cell.cell c.type_for-c.result (type_for (program_of c.args.walk.now).model (op_of_step c.args.op) (type_of (expr_view c.args.to.now)) Int) tc c.in_ok-cell.ensures.meant q.0 q.2 in
     let kept = kept_twice (program_of c.args.walk.now) (mode_of c.args.walk.now) c.in_ok-cell.cell c.in_ok-cell.ensures.is look.follows done.follows in
@@ -1093,12 +1149,12 @@ statements::give_back-returns-in_ok-go_back-in-None t c =
     (return_does (program_of c.args.walk.now) (mode_of c.args.walk.now) c.args.depth c.args.gives c.args.at
     (subst (λ e. FormReady (program_of c.args.walk.now) (mode_of c.args.walk.now) c.args.depth c.args.gives c.args.at c.args.sym.now (Return (expr_view_if e))) c.in-None.is c.requires.ready) c.in_ok-go_back-in-None.ensures)
 
-pub statements::statement-test_all-requires-clause-fits : goal.statements::statement-test_all-requires-clause-fits
-statements::statement-test_all-requires-clause-fits t c =
+pub statements::statement-begin-requires-clause-fits : goal.statements::statement-begin-requires-clause-fits
+statements::statement-begin-requires-clause-fits t c =
     c.requires.ready.fits
 
-pub statements::statement-test_all-requires-clause-room : goal.statements::statement-test_all-requires-clause-room
-statements::statement-test_all-requires-clause-room t c =
+pub statements::statement-begin-requires-clause-room : goal.statements::statement-begin-requires-clause-room
+statements::statement-begin-requires-clause-room t c =
     let p = program_of c.args.walk.now in
     let W = mode_of c.args.walk.now in
     test_room p W c.args.depth c.args.gives c.args.s.now.spot (form_view c.args.s.now.form) c.requires.ready
@@ -1107,13 +1163,13 @@ pub statements::statement-form-requires : goal.statements::statement-form-requir
 statements::statement-form-requires t c =
     let p = program_of c.args.walk.now in
     let W = mode_of c.args.walk.now in
-    (omega (arith, c.decreases), (c.requires.walk, form_ready p W c.args.depth c.args.gives c.args.s.now.spot (form_view c.args.s.now.form) c.requires.ready c.in_ok-test_all.ensures))
+    (omega (arith, c.decreases), (c.requires.walk, form_ready p W c.args.depth c.args.gives c.args.s.now.spot (form_view c.args.s.now.form) c.requires.ready c.in_ok-begin.ensures))
 
 pub statements::statement-returns : goal.statements::statement-returns
 statements::statement-returns t c =
     let p = program_of c.args.walk.now in
     let W = mode_of c.args.walk.now in
-    statement_does p W c.args.depth c.args.gives c.args.s.now.spot (form_view c.args.s.now.form) c.in_ok-test_all.ensures c.in_ok-form.ensures
+    statement_does p W c.args.depth c.args.gives c.args.s.now.spot (form_view c.args.s.now.form) c.in_ok-begin.ensures c.in_ok-form.ensures
 
 pub statements::form-returns-in-Empty : goal.statements::form-returns-in-Empty
 statements::form-returns-in-Empty t c =
@@ -1426,13 +1482,21 @@ pub control::decided-test-requires-clause-room : goal.control::decided-test-requ
 control::decided-test-requires-clause-room t c =
     omega (arith, (longer_by c.in_ok-x.ensures.follows.added).1, c.requires.ready.room)
 
+pub control::decided-tell_branch-requires-clause-room : goal.control::decided-tell_branch-requires-clause-room
+control::decided-tell_branch-requires-clause-room t c =
+    let p = program_of c.args.walk.now in
+    let W = mode_of c.args.walk.now in
+    let n = c.args.depth in
+    let e = expr_view c.args.e.now in
+    let cost = subst (λ k. conversion_cost p.model k BoolType ≤ width_of p.model (type_of e)) (sym c.type_of.ensures) (test_costs p.model (type_of e)) in
+    control_room p W n c.args.at e c.requires.ready c.in_ok-x.ensures c.in_ok-bit.ensures cost
+
 pub control::decided-returns : goal.control::decided-returns
 control::decided-returns t c =
     let p = program_of c.args.walk.now in
     let W = mode_of c.args.walk.now in
     let n = c.args.depth in
-    decides p W n c.args.at (expr_view c.args.e.now) c.type_of.result c.in_ok-bit.bit c.type_of.ensures c.requires.ready.value c.in_ok-x.ensures c.in_ok-bit.ensures
-    (untold c.args.walk.now c.test.new.sym (λ v. Branch c.args.at (Truth (holds v c.test.new.sym.net c.in_ok-bit.bit))) c.in_ok-bit.ensures.turned.fits)
+    decides p W n c.args.at (expr_view c.args.e.now) c.type_of.result c.in_ok-bit.bit c.type_of.ensures c.requires.ready.value c.in_ok-x.ensures c.in_ok-bit.ensures c.in_ok-tell_branch.ensures
 
 pub control::test_turn-decided-requires : goal.control::test_turn-decided-requires
 control::test_turn-decided-requires t c =
@@ -1462,7 +1526,7 @@ control::test_turn_if-test_turn-requires t c =
     let W = mode_of c.args.walk.now in
     let n = c.args.depth in
     let e = ap expr_view_if c.in-Some.is in
-    (omega (arith, c.decreases, ap (weight_of_test p W n) e), (c.requires.walk, some_test_ready p W n (subst (TestIfReady p W n c.args.sym.now) e c.requires.ready)))
+    (omega (arith, c.decreases, ap (weight_of_test p W n c.args.at) e), (c.requires.walk, some_test_ready p W n (subst (TestIfReady p W n c.args.at c.args.sym.now) e c.requires.ready)))
 
 pub control::test_turn_if-returns-in_ok-test_turn-in-Some : goal.control::test_turn_if-returns-in_ok-test_turn-in-Some
 control::test_turn_if-returns-in_ok-test_turn-in-Some t c =
@@ -1478,7 +1542,7 @@ control::test_turn_if-returns-in-None t c =
     let W = mode_of c.args.walk.now in
     let n = c.args.depth in
     let e = ap expr_view_if c.in-None.is in
-    subst (λ o. TestIfDoes p W n c.args.at o c.args.sym.now c.args.sym.now) (sym e) (no_test p W n c.args.at (subst (TestIfReady p W n c.args.sym.now) e c.requires.ready))
+    subst (λ o. TestIfDoes p W n c.args.at o c.args.sym.now c.args.sym.now) (sym e) (no_test p W n c.args.at (subst (TestIfReady p W n c.args.at c.args.sym.now) e c.requires.ready))
 
 pub control::step_on-full-requires : goal.control::step_on-full-requires
 control::step_on-full-requires t c =
@@ -1628,7 +1692,7 @@ loops::turn-while_turn-requires t c =
     let n = c.args.depth in
     let gives = c.args.gives in
     let e : loop_of (form_view c.args.f.now) ≡ Some (WhileLoop (expr_view c.in-While.test) (stmt_view c.deref.result.now)) = ap (λ f. loop_of (form_view f)) c.in-While.is ∙ ap (λ s. Some (WhileLoop (expr_view c.in-While.test) (stmt_view s))) (sym c.deref.ensures) in
-    (omega (arith, c.decreases, ap (weight_of_turn p W n gives) e), (c.requires.walk, subst (TurnReady p W n gives c.args.sym.now) e c.requires.ready))
+    (omega (arith, c.decreases, ap (weight_of_turn p W n gives c.args.at) e), (c.requires.walk, subst (TurnReady p W n gives c.args.at c.args.sym.now) e c.requires.ready))
 
 pub loops::turn-returns-in_ok-while_turn-in-While : goal.loops::turn-returns-in_ok-while_turn-in-While
 loops::turn-returns-in_ok-while_turn-in-While t c =
@@ -1646,7 +1710,7 @@ loops::turn-do_turn-requires t c =
     let n = c.args.depth in
     let gives = c.args.gives in
     let e : loop_of (form_view c.args.f.now) ≡ Some (DoLoop (stmt_view c.deref-in-Do.result.now) (expr_view c.in-Do.test)) = ap (λ f. loop_of (form_view f)) c.in-Do.is ∙ ap (λ s. Some (DoLoop (stmt_view s) (expr_view c.in-Do.test))) (sym c.deref-in-Do.ensures) in
-    (omega (arith, c.decreases, ap (weight_of_turn p W n gives) e), (c.requires.walk, subst (TurnReady p W n gives c.args.sym.now) e c.requires.ready))
+    (omega (arith, c.decreases, ap (weight_of_turn p W n gives c.args.at) e), (c.requires.walk, subst (TurnReady p W n gives c.args.at c.args.sym.now) e c.requires.ready))
 
 pub loops::turn-returns-in_ok-do_turn-in-Do : goal.loops::turn-returns-in_ok-do_turn-in-Do
 loops::turn-returns-in_ok-do_turn-in-Do t c =
@@ -1664,7 +1728,7 @@ loops::turn-for_turn-requires t c =
     let n = c.args.depth in
     let gives = c.args.gives in
     let e : loop_of (form_view c.args.f.now) ≡ Some (ForLoop (expr_view_if c.in-For.test) (expr_view_if c.in-For.step) (stmt_view c.deref-in-For.result.now)) = ap (λ f. loop_of (form_view f)) c.in-For.is ∙ ap (λ s. Some (ForLoop (expr_view_if c.in-For.test) (expr_view_if c.in-For.step) (stmt_view s))) (sym c.deref-in-For.ensures) in
-    (omega (arith, c.decreases, ap (weight_of_turn p W n gives) e), (c.requires.walk, subst (TurnReady p W n gives c.args.sym.now) e c.requires.ready))
+    (omega (arith, c.decreases, ap (weight_of_turn p W n gives c.args.at) e), (c.requires.walk, subst (TurnReady p W n gives c.args.at c.args.sym.now) e c.requires.ready))
 
 pub loops::turn-returns-in_ok-for_turn-in-For : goal.loops::turn-returns-in_ok-for_turn-in-For
 loops::turn-returns-in_ok-for_turn-in-For t c =
@@ -1682,92 +1746,325 @@ loops::turn-returns-in_default t c =
     let n = c.args.depth in
     let gives = c.args.gives in
     let none : loop_of (form_view c.args.f.now) ≡ None = no_loop c.args.f.now c.in_default.not-While c.in_default.not-Do c.in_default.not-For in
-    subst (λ l. TurnDoes p W n gives c.args.at l c.args.sym.now c.args.sym.now) (sym none) (no_turn p W n gives c.args.at (subst (TurnReady p W n gives c.args.sym.now) none c.requires.ready))
+    subst (λ l. TurnDoes p W n gives c.args.at l c.args.sym.now c.args.sym.now) (sym none) (no_turn p W n gives c.args.at (subst (TurnReady p W n gives c.args.at c.args.sym.now) none c.requires.ready))
 
-pub loops::loop_scope-head-requires-clause-fits : goal.loops::loop_scope-head-requires-clause-fits
-loops::loop_scope-head-requires-clause-fits t c =
+-- ---- a loop in the mode of obligations
+pub loops::one_turn-head-requires-clause-obliged : goal.loops::one_turn-head-requires-clause-obliged
+loops::one_turn-head-requires-clause-obliged t c =
+    subst (IsJudging c.args.walk.now) c.requires.judging c.requires.walk
+
+pub loops::one_turn-head-requires-clause-fits : goal.loops::one_turn-head-requires-clause-fits
+loops::one_turn-head-requires-clause-fits t c =
     c.start_loop-kept.ensures.became.fits
 
-pub loops::loop_scope-head-requires-clause-room : goal.loops::loop_scope-head-requires-clause-room
-loops::loop_scope-head-requires-clause-room t c =
-    let p = program_of c.args.walk.now in
-    let W = mode_of c.args.walk.now in
+pub loops::one_turn-head-requires-clause-room : goal.loops::one_turn-head-requires-clause-room
+loops::one_turn-head-requires-clause-room t c =
+    let w = c.args.walk.now in
+    let p = program_of w in
     let n = c.args.depth in
     let gives = c.args.gives in
     let l = loop_of (form_view c.args.f.now) in
-    head_room p (invariants_of c.args.walk.now) n gives c.args.at l c.requires.ready c.start_loop-kept.ensures.became
+    let I = placed_view c.args.mode.invariants.now in
+    let ready = subst (λ m. LoopReady p (mode_by w m) n gives c.args.at c.args.sym.now l) c.requires.judging c.requires.ready in
+    head_room p I n gives c.args.at l ready c.start_loop-kept.ensures.became
 
-pub loops::loop_scope-turn-requires : goal.loops::loop_scope-turn-requires
-loops::loop_scope-turn-requires t c =
-    let p = program_of c.args.walk.now in
-    let W = mode_of c.args.walk.now in
+pub loops::one_turn-turn-requires : goal.loops::one_turn-turn-requires
+loops::one_turn-turn-requires t c =
+    let w = c.args.walk.now in
+    let p = program_of w in
     let n = c.args.depth in
     let gives = c.args.gives in
     let l = loop_of (form_view c.args.f.now) in
-    (omega (arith, c.decreases), (c.requires.walk, turn_starts p (invariants_of c.args.walk.now) n gives c.args.at l c.requires.ready c.start_loop-kept.ensures.became c.in_ok-head.ensures))
+    let I = placed_view c.args.mode.invariants.now in
+    let ready = subst (λ m. LoopReady p (mode_by w m) n gives c.args.at c.args.sym.now l) c.requires.judging c.requires.ready in
+    let within = subst (λ m. weight_of_turn p (mode_by w m) n gives c.args.at l ≤ weight_of_loop p (mode_by w m) n gives c.args.at l) (sym c.requires.judging) (turn_within p I n gives c.args.at l) in (
+      omega (arith, c.decreases, within),
+      (c.requires.walk, subst (λ m. TurnReady p (mode_by w m) n gives c.args.at c.head.new.sym l) (sym c.requires.judging) (turn_starts p I n gives c.args.at l ready c.start_loop-kept.ensures.became c.in_ok-head.ensures)),
+    )
 
-pub loops::loop_scope-test_all-requires-clause-fits : goal.loops::loop_scope-test_all-requires-clause-fits
-loops::loop_scope-test_all-requires-clause-fits t c =
+pub loops::one_turn-test_all-requires-clause-obliged : goal.loops::one_turn-test_all-requires-clause-obliged
+loops::one_turn-test_all-requires-clause-obliged t c =
+    subst (IsJudging c.args.walk.now) c.requires.judging c.requires.walk
+
+pub loops::one_turn-test_all-requires-clause-fits : goal.loops::one_turn-test_all-requires-clause-fits
+loops::one_turn-test_all-requires-clause-fits t c =
     c.in_ok-turn.ensures.fits
 
-pub loops::loop_scope-test_all-requires-clause-room : goal.loops::loop_scope-test_all-requires-clause-room
-loops::loop_scope-test_all-requires-clause-room t c =
-    let p = program_of c.args.walk.now in
-    let W = mode_of c.args.walk.now in
+pub loops::one_turn-test_all-requires-clause-room : goal.loops::one_turn-test_all-requires-clause-room
+loops::one_turn-test_all-requires-clause-room t c =
+    let w = c.args.walk.now in
+    let p = program_of w in
     let n = c.args.depth in
     let gives = c.args.gives in
     let l = loop_of (form_view c.args.f.now) in
-    omega (arith, head_room_again p (invariants_of c.args.walk.now) n gives c.args.at l c.requires.ready c.start_loop-kept.ensures.became c.in_ok-head.ensures c.in_ok-turn.ensures)
+    let I = placed_view c.args.mode.invariants.now in
+    let ready = subst (λ m. LoopReady p (mode_by w m) n gives c.args.at c.args.sym.now l) c.requires.judging c.requires.ready in
+    let done = subst (λ m. TurnDoes p (mode_by w m) n gives c.args.at l c.head.new.sym c.turn.new.sym) c.requires.judging c.in_ok-turn.ensures in
+    omega (arith, head_room_again p I n gives c.args.at l ready c.start_loop-kept.ensures.became c.in_ok-head.ensures done)
 
-pub loops::loop_scope-end-requires-clause-fits : goal.loops::loop_scope-end-requires-clause-fits
-loops::loop_scope-end-requires-clause-fits t c =
+pub loops::one_turn-end-requires-clause-fits : goal.loops::one_turn-end-requires-clause-fits
+loops::one_turn-end-requires-clause-fits t c =
     c.in_ok-test_all.ensures.fits
 
-pub loops::loop_scope-end-requires-clause-room : goal.loops::loop_scope-end-requires-clause-room
-loops::loop_scope-end-requires-clause-room t c =
-    let p = program_of c.args.walk.now in
-    let W = mode_of c.args.walk.now in
+pub loops::one_turn-end-requires-clause-room : goal.loops::one_turn-end-requires-clause-room
+loops::one_turn-end-requires-clause-room t c =
+    let w = c.args.walk.now in
+    let p = program_of w in
     let n = c.args.depth in
     let gives = c.args.gives in
     let l = loop_of (form_view c.args.f.now) in
-    omega (arith, head_room_again p (invariants_of c.args.walk.now) n gives c.args.at l c.requires.ready c.start_loop-kept.ensures.became c.in_ok-head.ensures c.in_ok-turn.ensures, (longer_by c.in_ok-test_all.ensures.added).1)
+    let I = placed_view c.args.mode.invariants.now in
+    let ready = subst (λ m. LoopReady p (mode_by w m) n gives c.args.at c.args.sym.now l) c.requires.judging c.requires.ready in
+    let done = subst (λ m. TurnDoes p (mode_by w m) n gives c.args.at l c.head.new.sym c.turn.new.sym) c.requires.judging c.in_ok-turn.ensures in
+    omega (arith, head_room_again p I n gives c.args.at l ready c.start_loop-kept.ensures.became c.in_ok-head.ensures done, (longer_by c.in_ok-test_all.ensures.added).1)
 
-pub loops::loop_scope-end_loop-requires-clause-fits : goal.loops::loop_scope-end_loop-requires-clause-fits
-loops::loop_scope-end_loop-requires-clause-fits t c =
-    let p = program_of c.args.walk.now in
-    let W = mode_of c.args.walk.now in
-    let n = c.args.depth in
-    (c.in_ok-end.ensures W).fits
+pub loops::one_turn-end_loop-requires-clause-fits : goal.loops::one_turn-end_loop-requires-clause-fits
+loops::one_turn-end_loop-requires-clause-fits t c =
+    (c.in_ok-end.ensures (mode_of c.args.walk.now)).fits
 
-pub loops::loop_scope-end_loop-requires-clause-kept_in : goal.loops::loop_scope-end_loop-requires-clause-kept_in
-loops::loop_scope-end_loop-requires-clause-kept_in t c =
-    let p = program_of c.args.walk.now in
-    let W = mode_of c.args.walk.now in
-    let n = c.args.depth in
-    let gives = c.args.gives in
-    let l = loop_of (form_view c.args.f.now) in
-    outer_kept p (invariants_of c.args.walk.now) n gives c.args.at l c.requires.ready c.start_loop-kept.ensures.became c.in_ok-head.ensures c.in_ok-turn.ensures c.in_ok-test_all.ensures (c.in_ok-end.ensures W) c.start_loop-kept.result c.start_loop-kept.ensures.kept
-
-pub loops::loop_scope-end_loop-requires-clause-room : goal.loops::loop_scope-end_loop-requires-clause-room
-loops::loop_scope-end_loop-requires-clause-room t c =
-    let p = program_of c.args.walk.now in
-    let W = mode_of c.args.walk.now in
+pub loops::one_turn-end_loop-requires-clause-kept_in : goal.loops::one_turn-end_loop-requires-clause-kept_in
+loops::one_turn-end_loop-requires-clause-kept_in t c =
+    let w = c.args.walk.now in
+    let p = program_of w in
     let n = c.args.depth in
     let gives = c.args.gives in
     let l = loop_of (form_view c.args.f.now) in
-    omega (arith, head_room_again p (invariants_of c.args.walk.now) n gives c.args.at l c.requires.ready c.start_loop-kept.ensures.became c.in_ok-head.ensures c.in_ok-turn.ensures, (longer_by c.in_ok-test_all.ensures.added).1, (longer_by (c.in_ok-end.ensures W).added).1)
+    let I = placed_view c.args.mode.invariants.now in
+    let ready = subst (λ m. LoopReady p (mode_by w m) n gives c.args.at c.args.sym.now l) c.requires.judging c.requires.ready in
+    let done = subst (λ m. TurnDoes p (mode_by w m) n gives c.args.at l c.head.new.sym c.turn.new.sym) c.requires.judging c.in_ok-turn.ensures in
+    let ended = c.in_ok-end.ensures (mode_by w (Obliges c.args.mode)) in
+    outer_kept p I n gives c.args.at l ready c.start_loop-kept.ensures.became c.in_ok-head.ensures done c.in_ok-test_all.ensures ended c.start_loop-kept.result c.start_loop-kept.ensures.kept
 
-pub loops::loop_scope-returns : goal.loops::loop_scope-returns
-loops::loop_scope-returns t c =
-    let p = program_of c.args.walk.now in
-    let W = mode_of c.args.walk.now in
+pub loops::one_turn-end_loop-requires-clause-room : goal.loops::one_turn-end_loop-requires-clause-room
+loops::one_turn-end_loop-requires-clause-room t c =
+    let w = c.args.walk.now in
+    let p = program_of w in
     let n = c.args.depth in
     let gives = c.args.gives in
     let l = loop_of (form_view c.args.f.now) in
+    let I = placed_view c.args.mode.invariants.now in
+    let ready = subst (λ m. LoopReady p (mode_by w m) n gives c.args.at c.args.sym.now l) c.requires.judging c.requires.ready in
+    let done = subst (λ m. TurnDoes p (mode_by w m) n gives c.args.at l c.head.new.sym c.turn.new.sym) c.requires.judging c.in_ok-turn.ensures in
+    let ended = c.in_ok-end.ensures (mode_by w (Obliges c.args.mode)) in
+    omega (arith, head_room_again p I n gives c.args.at l ready c.start_loop-kept.ensures.became c.in_ok-head.ensures done, (longer_by c.in_ok-test_all.ensures.added).1, (longer_by ended.added).1)
+
+pub loops::one_turn-returns : goal.loops::one_turn-returns
+loops::one_turn-returns t c =
+    let w = c.args.walk.now in
+    let p = program_of w in
+    let n = c.args.depth in
+    let gives = c.args.gives in
+    let l = loop_of (form_view c.args.f.now) in
+    let I = placed_view c.args.mode.invariants.now in
+    let ready = subst (λ m. LoopReady p (mode_by w m) n gives c.args.at c.args.sym.now l) c.requires.judging c.requires.ready in
+    let done = subst (λ m. TurnDoes p (mode_by w m) n gives c.args.at l c.head.new.sym c.turn.new.sym) c.requires.judging c.in_ok-turn.ensures in
+    let ended = c.in_ok-end.ensures (mode_by w (Obliges c.args.mode)) in
     let count : vec_len c.args.sym.now.cells ≡ length c.args.sym.now.cells.items = search rules in
-    let w = loop_ends p (invariants_of c.args.walk.now) n gives c.args.at l c.requires.ready c.start_loop-kept.ensures.became c.in_ok-head.ensures c.in_ok-turn.ensures c.in_ok-test_all.ensures (c.in_ok-end.ensures W) c.start_loop-kept.result c.start_loop-kept.ensures.kept
+    let last = loop_ends p I n gives c.args.at l ready c.start_loop-kept.ensures.became c.in_ok-head.ensures done c.in_ok-test_all.ensures ended c.start_loop-kept.result c.start_loop-kept.ensures.kept
     c.len-cells.result (c.len-cells.ensures ∙ count) c.in_ok-end_loop.ensures in
-    loop_does p (invariants_of c.args.walk.now) n gives c.args.at l c.requires.ready c.start_loop-kept.ensures.became c.in_ok-head.ensures c.in_ok-turn.ensures c.in_ok-test_all.ensures (c.in_ok-end.ensures W) w
+    subst (λ m. LoopDoes p (mode_by w m) n gives c.args.at l c.args.sym.now c.end_loop.new.sym) (sym c.requires.judging) (loop_does p I n gives c.args.at l ready c.start_loop-kept.ensures.became c.in_ok-head.ensures done c.in_ok-test_all.ensures ended last)
+
+-- ---- a loop in the mode of runs that seek
+-- open: the names of goals past the early return of `turns`
+pub loops::last_test-test_turn-requires : goal.loops::last_test-test_turn-requires
+loops::last_test-test_turn-requires t c =
+    let w = c.args.walk.now in
+    let p = program_of w in
+    let W = mode_of w in
+    let n = c.args.depth in
+    let gives = c.args.gives in
+    let e = ap (λ f. loop_of (form_view f)) c.in-While.is in
+    (omega (arith, c.decreases, ap (weight_of_turns p W n gives 0 c.args.at) e), (c.requires.walk, while_last p W n gives c.args.at (subst (TurnsReady p W n gives 0 c.args.at c.args.sym.now) e c.requires.ready)))
+
+pub loops::last_test-returns-in_ok-test_turn-in-While : goal.loops::last_test-returns-in_ok-test_turn-in-While
+loops::last_test-returns-in_ok-test_turn-in-While t c =
+    let w = c.args.walk.now in
+    let p = program_of w in
+    let W = mode_of w in
+    let n = c.args.depth in
+    let gives = c.args.gives in
+    let e = ap (λ f. loop_of (form_view f)) c.in-While.is in
+    subst (λ l. LastDoes p W n gives c.args.at l c.args.sym.now c.test_turn.new.sym) (sym e) (c.in_ok-test_turn-in-While.ensures gives)
+
+pub loops::last_test-test_turn_if-requires : goal.loops::last_test-test_turn_if-requires
+loops::last_test-test_turn_if-requires t c =
+    let w = c.args.walk.now in
+    let p = program_of w in
+    let W = mode_of w in
+    let n = c.args.depth in
+    let gives = c.args.gives in
+    let e = ap (λ f. loop_of (form_view f)) c.in-For.is in
+    (omega (arith, c.decreases, ap (weight_of_turns p W n gives 0 c.args.at) e), (c.requires.walk, for_last p W n gives c.args.at (subst (TurnsReady p W n gives 0 c.args.at c.args.sym.now) e c.requires.ready)))
+
+pub loops::last_test-returns-in_ok-test_turn_if-in-For : goal.loops::last_test-returns-in_ok-test_turn_if-in-For
+loops::last_test-returns-in_ok-test_turn_if-in-For t c =
+    let w = c.args.walk.now in
+    let p = program_of w in
+    let W = mode_of w in
+    let n = c.args.depth in
+    let gives = c.args.gives in
+    let e = ap (λ f. loop_of (form_view f)) c.in-For.is in
+    subst (λ l. LastDoes p W n gives c.args.at l c.args.sym.now c.test_turn_if.new.sym) (sym e) (c.in_ok-test_turn_if-in-For.ensures gives)
+
+pub loops::last_test-returns-in-Do : goal.loops::last_test-returns-in-Do
+loops::last_test-returns-in-Do t c =
+    let w = c.args.walk.now in
+    let p = program_of w in
+    let W = mode_of w in
+    let n = c.args.depth in
+    let gives = c.args.gives in
+    let e = ap (λ f. loop_of (form_view f)) c.in-Do.is in
+    subst (λ l. LastDoes p W n gives c.args.at l c.args.sym.now c.args.sym.now) (sym e) (do_last p W n gives c.args.at c.requires.ready.fits)
+
+pub loops::last_test-returns-in_default : goal.loops::last_test-returns-in_default
+loops::last_test-returns-in_default t c =
+    let w = c.args.walk.now in
+    let p = program_of w in
+    let W = mode_of w in
+    let n = c.args.depth in
+    let gives = c.args.gives in
+    let none : loop_of (form_view c.args.f.now) ≡ None = no_loop c.args.f.now c.in_default.not-While c.in_default.not-Do c.in_default.not-For in
+    subst (λ l. LastDoes p W n gives c.args.at l c.args.sym.now c.args.sym.now) (sym none) (none_last p W n gives c.args.at c.requires.ready.fits)
+
+pub loops::turns-last_test-requires : goal.loops::turns-last_test-requires
+loops::turns-last_test-requires t c =
+    let w = c.args.walk.now in
+    let p = program_of w in
+    let W = mode_of w in
+    let n = c.args.depth in
+    let gives = c.args.gives in
+    let l = loop_of (form_view c.args.f.now) in
+    let none : c.args.left ≡ 0 = search rules in
+    (omega (arith, c.decreases, ap (λ r. weight_of_turns p W n gives r c.args.at l) none), (c.requires.walk, subst (λ r. TurnsReady p W n gives r c.args.at c.args.sym.now l) none c.requires.ready))
+
+pub loops::turns-end-requires-clause-fits : goal.loops::turns-end-requires-clause-fits
+loops::turns-end-requires-clause-fits t c =
+    c.in_ok-last_test.ensures.fits
+
+pub loops::turns-end-requires-clause-room : goal.loops::turns-end-requires-clause-room
+loops::turns-end-requires-clause-room t c =
+    let w = c.args.walk.now in
+    let p = program_of w in
+    let W = mode_of w in
+    let n = c.args.depth in
+    let gives = c.args.gives in
+    let l = loop_of (form_view c.args.f.now) in
+    let none : c.args.left ≡ 0 = search rules in
+    last_test_room p W n gives c.args.at (subst (λ r. TurnsReady p W n gives r c.args.at c.args.sym.now l) none c.requires.ready) c.in_ok-last_test.ensures
+
+pub loops::turns-returns-then-left-eq0 : goal.loops::turns-returns-then-left-eq0
+loops::turns-returns-then-left-eq0 t c =
+    let w = c.args.walk.now in
+    let p = program_of w in
+    let W = mode_of w in
+    let n = c.args.depth in
+    let gives = c.args.gives in
+    let l = loop_of (form_view c.args.f.now) in
+    let none : c.args.left ≡ 0 = search rules in
+    subst (λ r. TurnsDo p W n gives r c.args.at l c.args.sym.now c.end.new.sym) (sym none)
+    (turns_end p W n gives c.args.at l (subst (λ r. TurnsReady p W n gives r c.args.at c.args.sym.now l) none c.requires.ready) c.in_ok-last_test.ensures (c.in_ok-end.ensures W))
+
+pub loops::turns-turn-requires : goal.loops::turns-turn-requires
+loops::turns-turn-requires t c =
+    let w = c.args.walk.now in
+    let p = program_of w in
+    let W = mode_of w in
+    let n = c.args.depth in
+    let gives = c.args.gives in
+    let l = loop_of (form_view c.args.f.now) in
+    let more : c.args.left ≡ suc (c.args.left - 1) = omega (arith, c.if-left-eq0.false) in
+    (omega (arith, c.decreases, ap (λ r. weight_of_turns p W n gives r c.args.at l) more), (c.requires.walk, turn_first p W n gives c.args.at (subst (λ r. TurnsReady p W n gives r c.args.at c.args.sym.now l) more c.requires.ready)))
+
+pub loops::turns-turns-requires : goal.loops::turns-turns-requires
+loops::turns-turns-requires t c =
+    let w = c.args.walk.now in
+    let p = program_of w in
+    let W = mode_of w in
+    let n = c.args.depth in
+    let gives = c.args.gives in
+    let l = loop_of (form_view c.args.f.now) in
+    let more : c.args.left ≡ suc (c.args.left - 1) = omega (arith, c.if-left-eq0.false) in
+    (omega (arith, c.decreases, more, ap (λ r. weight_of_turns p W n gives r c.args.at l) more), (c.requires.walk, turns_next p W n gives c.args.at (subst (λ r. TurnsReady p W n gives r c.args.at c.args.sym.now l) more c.requires.ready) c.in_ok-turn.ensures))
+
+pub loops::turns-returns : goal.loops::turns-returns
+loops::turns-returns t c =
+    let w = c.args.walk.now in
+    let p = program_of w in
+    let W = mode_of w in
+    let n = c.args.depth in
+    let gives = c.args.gives in
+    let l = loop_of (form_view c.args.f.now) in
+    let more : c.args.left ≡ suc (c.args.left - 1) = omega (arith, c.if-left-eq0.false) in
+    subst (λ r. TurnsDo p W n gives r c.args.at l c.args.sym.now c.turns.new.sym) (sym more) (turns_more p W n gives c.args.at (c.args.left - 1) l c.in_ok-turn.ensures c.in_ok-turns.ensures)
+
+pub loops::all_turns-turns-requires : goal.loops::all_turns-turns-requires
+loops::all_turns-turns-requires t c =
+    let w = c.args.walk.now in
+    let p = program_of w in
+    let n = c.args.depth in
+    let gives = c.args.gives in
+    let l = loop_of (form_view c.args.f.now) in
+    let ss = segments_of c.args.mode in
+    let k = c.args.mode.turns in
+    let ready = subst (λ m. LoopReady p (mode_by w m) n gives c.args.at c.args.sym.now l) c.requires.judging c.requires.ready in
+    let within = subst (λ m. turn_glue * k + weight_of_turns p (mode_by w m) n gives k c.args.at l ≤ weight_of_loop p (mode_by w m) n gives c.args.at l) (sym c.requires.judging) (turns_within p ss k n gives c.args.at l) in (
+      omega (arith, c.decreases, within),
+      (c.requires.walk, subst (λ m. TurnsReady p (mode_by w m) n gives k c.args.at c.start_loop-outer.new.sym l) (sym c.requires.judging) (all_ready p ss k n gives c.args.at l ready c.start_loop-outer.ensures.became)),
+    )
+
+pub loops::all_turns-end_loop-requires-clause-fits : goal.loops::all_turns-end_loop-requires-clause-fits
+loops::all_turns-end_loop-requires-clause-fits t c =
+    c.in_ok-turns.ensures.fits
+
+pub loops::all_turns-end_loop-requires-clause-kept_in : goal.loops::all_turns-end_loop-requires-clause-kept_in
+loops::all_turns-end_loop-requires-clause-kept_in t c =
+    let w = c.args.walk.now in
+    let p = program_of w in
+    let n = c.args.depth in
+    let gives = c.args.gives in
+    let l = loop_of (form_view c.args.f.now) in
+    let ss = segments_of c.args.mode in
+    let k = c.args.mode.turns in
+    let ready = subst (λ m. LoopReady p (mode_by w m) n gives c.args.at c.args.sym.now l) c.requires.judging c.requires.ready in
+    stays_in p (mode_of w) n gives c.start_loop-outer.result c.args.sym.now.broken c.start_loop-outer.ensures.kept ready.fits.broken c.start_loop-outer.ensures.became c.in_ok-turns.ensures
+
+pub loops::all_turns-end_loop-requires-clause-room : goal.loops::all_turns-end_loop-requires-clause-room
+loops::all_turns-end_loop-requires-clause-room t c =
+    let w = c.args.walk.now in
+    let p = program_of w in
+    let n = c.args.depth in
+    let gives = c.args.gives in
+    let l = loop_of (form_view c.args.f.now) in
+    let ss = segments_of c.args.mode in
+    let k = c.args.mode.turns in
+    let ready = subst (λ m. LoopReady p (mode_by w m) n gives c.args.at c.args.sym.now l) c.requires.judging c.requires.ready in
+    let done = subst (λ m. TurnsDo p (mode_by w m) n gives k c.args.at l c.start_loop-outer.new.sym c.turns.new.sym) c.requires.judging c.in_ok-turns.ensures in
+    let room = all_room p ss k n gives c.args.at l ready c.start_loop-outer.ensures.became done in
+    omega (arith, room)
+
+pub loops::all_turns-returns : goal.loops::all_turns-returns
+loops::all_turns-returns t c =
+    let w = c.args.walk.now in
+    let p = program_of w in
+    let n = c.args.depth in
+    let gives = c.args.gives in
+    let l = loop_of (form_view c.args.f.now) in
+    let ss = segments_of c.args.mode in
+    let k = c.args.mode.turns in
+    let ready = subst (λ m. LoopReady p (mode_by w m) n gives c.args.at c.args.sym.now l) c.requires.judging c.requires.ready in
+    let count : vec_len c.args.sym.now.cells ≡ length c.args.sym.now.cells.items = search rules in
+    let done = subst (λ m. TurnsDo p (mode_by w m) n gives k c.args.at l c.start_loop-outer.new.sym c.turns.new.sym) c.requires.judging c.in_ok-turns.ensures in
+    subst (λ m. LoopDoes p (mode_by w m) n gives c.args.at l c.args.sym.now c.end_loop.new.sym) (sym c.requires.judging)
+    (all_done p ss k n gives c.args.at l c.start_loop-outer.result c.len-cells.result ready c.start_loop-outer.ensures.kept (c.len-cells.ensures ∙ count) c.start_loop-outer.ensures.became done c.in_ok-end_loop.ensures)
+
+-- ---- a loop, as its mode does it
+pub loops::loop_scope-one_turn-requires : goal.loops::loop_scope-one_turn-requires
+loops::loop_scope-one_turn-requires t c =
+    (omega (arith, c.decreases), (c.requires.walk, c.in-Obliges.is, c.requires.ready))
+
+pub loops::loop_scope-all_turns-requires : goal.loops::loop_scope-all_turns-requires
+loops::loop_scope-all_turns-requires t c =
+    (omega (arith, c.decreases), (c.requires.walk, c.in-Seeks.is, c.requires.ready))
 
 pub loops::for_scope-first-requires : goal.loops::for_scope-first-requires
 loops::for_scope-first-requires t c =
@@ -1883,14 +2180,14 @@ pub calls::run_function-set_parameters-requires-clause-arguments_in : goal.calls
 calls::run_function-set_parameters-requires-clause-arguments_in t c =
     let w = c.args.walk.now in
     let f = c.args.function.now in
-    entered_arguments (program_of w) (mode_of w) c.args.depth c.args.needed f.result f.params f.body.spot (form_view f.body.form) c.args.arguments.now c.type_or_int.result c.requires.ready c.in_ok-caller.ensures.enters
+    entered_arguments (program_of w) (mode_of w) c.args.depth c.args.close c.args.needed f.result f.params f.body.spot (form_view f.body.form) c.args.arguments.now c.type_or_int-ty.result c.requires.ready c.in_ok-caller.ensures.enters
 
 pub calls::run_function-set_parameters-requires-clause-room : goal.calls::run_function-set_parameters-requires-clause-room
 calls::run_function-set_parameters-requires-clause-room t c =
     let w = c.args.walk.now in
     let f = c.args.function.now in
     subst (λ z. length c.enter.new.sym.net + set_cost (program_of w) z c.args.arguments.now < 2 ^ 28) (sym c.as_slice.ensures)
-    (entered_room (program_of w) (mode_of w) c.args.depth c.args.needed f.result f.params f.body.spot (form_view f.body.form) c.args.arguments.now c.type_or_int.result c.requires.ready c.in_ok-caller.ensures.enters)
+    (entered_room (program_of w) (mode_of w) c.args.depth c.args.close c.args.needed f.result f.params f.body.spot (form_view f.body.form) c.args.arguments.now c.type_or_int-ty.result c.requires.ready c.in_ok-caller.ensures.enters)
 
 pub calls::run_function-form-requires : goal.calls::run_function-form-requires
 calls::run_function-form-requires t c =
@@ -1899,7 +2196,7 @@ calls::run_function-form-requires t c =
     let y : Sets (program_of w) f.params c.args.arguments.now c.enter.new.sym c.set_parameters.new.sym =
     subst (λ z. Sets (program_of w) z c.args.arguments.now c.enter.new.sym c.set_parameters.new.sym) c.as_slice.ensures c.in_ok-set_parameters.ensures in (
       omega (arith, c.decreases),
-      (c.requires.walk, body_ready (program_of w) (mode_of w) c.args.depth c.args.needed f.result f.params f.body.spot (form_view f.body.form) c.args.arguments.now c.type_or_int.result c.requires.ready c.in_ok-caller.ensures.enters c.type_or_int.ensures y),
+      (c.requires.walk, body_ready (program_of w) (mode_of w) c.args.depth c.args.close c.args.needed f.result f.params f.body.spot (form_view f.body.form) c.args.arguments.now c.type_or_int-ty.result c.requires.ready c.in_ok-caller.ensures.enters c.type_or_int-ty.ensures y),
     )
 
 pub calls::run_function-come_back-requires-clause-caller_in : goal.calls::run_function-come_back-requires-clause-caller_in
@@ -1908,7 +2205,7 @@ calls::run_function-come_back-requires-clause-caller_in t c =
     let f = c.args.function.now in
     let y : Sets (program_of w) f.params c.args.arguments.now c.enter.new.sym c.set_parameters.new.sym =
     subst (λ z. Sets (program_of w) z c.args.arguments.now c.enter.new.sym c.set_parameters.new.sym) c.as_slice.ensures c.in_ok-set_parameters.ensures in
-    back_around (program_of w) (mode_of w) c.args.depth c.args.needed f.result f.params f.body.spot (form_view f.body.form) c.args.arguments.now c.type_or_int.result c.requires.ready c.in_ok-caller.ensures.enters c.type_or_int.ensures y c.in_ok-form.ensures c.in_ok-caller.caller c.in_ok-caller.ensures.around
+    back_around (program_of w) (mode_of w) c.args.depth c.args.close c.args.needed f.result f.params f.body.spot (form_view f.body.form) c.args.arguments.now c.type_or_int-ty.result c.requires.ready c.in_ok-caller.ensures.enters c.type_or_int-ty.ensures y c.in_ok-form.ensures c.in_ok-caller.caller c.in_ok-caller.ensures.around
 
 pub calls::run_function-come_back-requires-clause-room : goal.calls::run_function-come_back-requires-clause-room
 calls::run_function-come_back-requires-clause-room t c =
@@ -1916,13 +2213,43 @@ calls::run_function-come_back-requires-clause-room t c =
     let f = c.args.function.now in
     let y : Sets (program_of w) f.params c.args.arguments.now c.enter.new.sym c.set_parameters.new.sym =
     subst (λ z. Sets (program_of w) z c.args.arguments.now c.enter.new.sym c.set_parameters.new.sym) c.as_slice.ensures c.in_ok-set_parameters.ensures in
-    back_room (program_of w) (mode_of w) c.args.depth c.args.needed f.result f.params f.body.spot (form_view f.body.form) c.args.arguments.now c.type_or_int.result c.requires.ready c.in_ok-caller.ensures.enters c.type_or_int.ensures y c.in_ok-form.ensures
+    back_room (program_of w) (mode_of w) c.args.depth c.args.close c.args.needed f.result f.params f.body.spot (form_view f.body.form) c.args.arguments.now c.type_or_int-ty.result c.requires.ready c.in_ok-caller.ensures.enters c.type_or_int-ty.ensures y c.in_ok-form.ensures
+
+pub calls::run_function-tell_return-requires-clause-fits : goal.calls::run_function-tell_return-requires-clause-fits
+calls::run_function-tell_return-requires-clause-fits t c =
+    c.in_ok-back.ensures.fits
+
+pub calls::run_function-tell_return-requires-clause-bits_in : goal.calls::run_function-tell_return-requires-clause-bits_in
+calls::run_function-tell_return-requires-clause-bits_in t c =
+    let w = c.args.walk.now in
+    let f = c.args.function.now in
+    let y : Sets (program_of w) f.params c.args.arguments.now c.enter.new.sym c.set_parameters.new.sym =
+    subst (λ z. Sets (program_of w) z c.args.arguments.now c.enter.new.sym c.set_parameters.new.sym) c.as_slice.ensures c.in_ok-set_parameters.ensures in
+    told_in (program_of w) (mode_of w) c.args.depth c.args.close c.args.needed f.result f.params f.body.spot (form_view f.body.form) c.args.arguments.now c.type_or_int-ty.result c.requires.ready c.in_ok-caller.ensures.enters c.type_or_int-ty.ensures y c.in_ok-form.ensures c.in_ok-back.ensures
+
+pub calls::run_function-tell_return-requires-clause-gave_in : goal.calls::run_function-tell_return-requires-clause-gave_in
+calls::run_function-tell_return-requires-clause-gave_in t c =
+    c.in_ok-back.ensures.gave_in
+
+pub calls::run_function-tell_return-requires-clause-room : goal.calls::run_function-tell_return-requires-clause-room
+calls::run_function-tell_return-requires-clause-room t c =
+    let w = c.args.walk.now in
+    let f = c.args.function.now in
+    let y : Sets (program_of w) f.params c.args.arguments.now c.enter.new.sym c.set_parameters.new.sym =
+    subst (λ z. Sets (program_of w) z c.args.arguments.now c.enter.new.sym c.set_parameters.new.sym) c.as_slice.ensures c.in_ok-set_parameters.ensures in
+    told_room (program_of w) (mode_of w) c.args.depth c.args.close c.args.needed f.result f.params f.body.spot (form_view f.body.form) c.args.arguments.now c.type_or_int-ty.result c.requires.ready c.in_ok-caller.ensures.enters c.type_or_int-ty.ensures y c.in_ok-form.ensures c.in_ok-back.ensures
 
 pub calls::run_function-need-requires-clause-fits : goal.calls::run_function-need-requires-clause-fits
-calls::run_function-need-requires-clause-fits t c = c.in_ok-back.ensures.fits
+calls::run_function-need-requires-clause-fits t c =
+    c.in_ok-tell_return.ensures.fits
 
 pub calls::run_function-need-requires-clause-gave_in : goal.calls::run_function-need-requires-clause-gave_in
-calls::run_function-need-requires-clause-gave_in t c = c.in_ok-back.ensures.gave_in
+calls::run_function-need-requires-clause-gave_in t c =
+    let w = c.args.walk.now in
+    let f = c.args.function.now in
+    let y : Sets (program_of w) f.params c.args.arguments.now c.enter.new.sym c.set_parameters.new.sym =
+    subst (λ z. Sets (program_of w) z c.args.arguments.now c.enter.new.sym c.set_parameters.new.sym) c.as_slice.ensures c.in_ok-set_parameters.ensures in
+    need_in (program_of w) (mode_of w) c.args.depth c.args.close c.args.needed f.result f.params f.body.spot (form_view f.body.form) c.args.arguments.now c.type_or_int-ty.result c.requires.ready c.in_ok-caller.ensures.enters c.type_or_int-ty.ensures y c.in_ok-form.ensures c.in_ok-caller.caller c.len-cells.result c.in_ok-back.ensures c.in_ok-tell_return.ensures
 
 pub calls::run_function-need-requires-clause-room : goal.calls::run_function-need-requires-clause-room
 calls::run_function-need-requires-clause-room t c =
@@ -1930,7 +2257,7 @@ calls::run_function-need-requires-clause-room t c =
     let f = c.args.function.now in
     let y : Sets (program_of w) f.params c.args.arguments.now c.enter.new.sym c.set_parameters.new.sym =
     subst (λ z. Sets (program_of w) z c.args.arguments.now c.enter.new.sym c.set_parameters.new.sym) c.as_slice.ensures c.in_ok-set_parameters.ensures in
-    need_room (program_of w) (mode_of w) c.args.depth c.args.needed f.result f.params f.body.spot (form_view f.body.form) c.args.arguments.now c.type_or_int.result c.requires.ready c.in_ok-caller.ensures.enters c.type_or_int.ensures y c.in_ok-form.ensures c.in_ok-back.ensures
+    need_room (program_of w) (mode_of w) c.args.depth c.args.close c.args.needed f.result f.params f.body.spot (form_view f.body.form) c.args.arguments.now c.type_or_int-ty.result c.requires.ready c.in_ok-caller.ensures.enters c.type_or_int-ty.ensures y c.in_ok-form.ensures c.in_ok-caller.caller c.len-cells.result c.in_ok-back.ensures c.in_ok-tell_return.ensures
 
 pub calls::run_function-returns : goal.calls::run_function-returns
 calls::run_function-returns t c =
@@ -1938,16 +2265,15 @@ calls::run_function-returns t c =
     let f = c.args.function.now in
     let y : Sets (program_of w) f.params c.args.arguments.now c.enter.new.sym c.set_parameters.new.sym =
     subst (λ z. Sets (program_of w) z c.args.arguments.now c.enter.new.sym c.set_parameters.new.sym) c.as_slice.ensures c.in_ok-set_parameters.ensures in
-    function_run (program_of w) (mode_of w) c.args.depth c.args.needed f.result f.params f.body.spot (form_view f.body.form) c.args.arguments.now c.type_or_int.result c.requires.ready c.in_ok-caller.ensures.enters c.type_or_int.ensures y c.in_ok-form.ensures c.in_ok-caller.caller c.len-cells.result c.in_ok-caller.ensures.around (omega (arith, c.len-cells.ensures, c.args.sym.now.cells.ok.0)) c.in_ok-back.ensures
-    (λ close o. untold w c.come_back.new.sym (λ v. Returned close (o v)) c.in_ok-back.ensures.fits) c.in_ok-need.ensures
+    function_run (program_of w) (mode_of w) c.args.depth c.args.close c.args.needed f.result f.params f.body.spot (form_view f.body.form) c.args.arguments.now c.type_or_int-ty.result c.requires.ready c.in_ok-caller.ensures.enters c.type_or_int-ty.ensures y c.in_ok-form.ensures c.in_ok-caller.caller c.len-cells.result c.in_ok-back.ensures c.in_ok-tell_return.ensures c.in_ok-caller.ensures.around (omega (arith, c.len-cells.ensures, c.args.sym.now.cells.ok.0)) c.in_ok-need.ensures
 
 pub calls::call_found-run_function-requires : goal.calls::call_found-run_function-requires
 calls::call_found-run_function-requires t c =
     let w = c.args.walk.now in (
-      omega (arith, c.decreases, found_weight (program_of w) (mode_of w) c.args.depth (c.args.depth - 1) c.args.function c.args.needed c.args.ty (function_view c.in-Some.found.now) c.args.sym.now c.args.arguments.now (omega (arith, c.in-Some.ensures.0)) c.in-Some.ensures.1 c.requires.ready),
+      omega (arith, c.decreases, found_nodes (program_of w) (mode_of w) c.args.depth (c.args.depth - 1) c.args.function c.args.close c.args.needed c.args.ty (function_view c.in-Some.found.now) c.args.sym.now c.args.arguments.now (omega (arith, c.in-Some.ensures.0)) c.in-Some.ensures.1 c.requires.ready),
       (
         c.requires.walk,
-        found_ready (program_of w) (mode_of w) c.args.depth (c.args.depth - 1) c.args.function c.args.needed c.args.ty (function_view c.in-Some.found.now) c.args.sym.now c.args.arguments.now (omega (arith, c.in-Some.ensures.0)) c.in-Some.ensures.1 c.requires.ready
+        found_ready (program_of w) (mode_of w) c.args.depth (c.args.depth - 1) c.args.function c.args.close c.args.needed c.args.ty (function_view c.in-Some.found.now) c.args.sym.now c.args.arguments.now (omega (arith, c.in-Some.ensures.0)) c.in-Some.ensures.1 c.requires.ready
             w.program.now.checked.types,
       ),
     )
@@ -1955,7 +2281,7 @@ calls::call_found-run_function-requires t c =
 pub calls::call_found-returns-in_ok-bits-in-Some : goal.calls::call_found-returns-in_ok-bits-in-Some
 calls::call_found-returns-in_ok-bits-in-Some t c =
     let w = c.args.walk.now in
-    found_called (program_of w) (mode_of w) c.args.depth (c.args.depth - 1) c.args.function c.args.needed c.args.ty (function_view c.in-Some.found.now) c.args.sym.now c.args.arguments.now (omega (arith, c.in-Some.ensures.0)) c.in-Some.ensures.1 c.requires.ready
+    found_called (program_of w) (mode_of w) c.args.depth (c.args.depth - 1) c.args.function c.args.close c.args.needed c.args.ty (function_view c.in-Some.found.now) c.args.sym.now c.args.arguments.now (omega (arith, c.in-Some.ensures.0)) c.in-Some.ensures.1 c.requires.ready
     c.in_ok-bits-in-Some.ensures
 
 pub calls::call_found-end_call-requires-clause-fits : goal.calls::call_found-end_call-requires-clause-fits
@@ -1967,7 +2293,7 @@ calls::call_found-end_call-requires-clause-room t c = omega (arith, c.requires.r
 pub calls::call_found-returns-in_ok-bits-in-None : goal.calls::call_found-returns-in_ok-bits-in-None
 calls::call_found-returns-in_ok-bits-in-None t c =
     let w = c.args.walk.now in
-    ended_called (program_of w) (mode_of w) c.args.depth c.args.function c.args.needed c.args.ty c.args.arguments.now c.in_ok-bits-in-None.ensures c.in-None.ensures
+    ended_called (program_of w) (mode_of w) c.args.close c.args.depth c.args.function c.args.needed c.args.ty c.args.arguments.now c.in_ok-bits-in-None.ensures c.in-None.ensures
 
 pub calls::call_defined-evals-requires : goal.calls::call_defined-evals-requires
 calls::call_defined-evals-requires t c =
@@ -1976,14 +2302,18 @@ calls::call_defined-evals-requires t c =
       (c.requires.walk, arguments_ready (program_of w) (mode_of w) c.args.depth c.args.at (use_of c.args.used) c.args.spot c.args.close c.args.ty c.args.function (exprs_view c.args.args.now) c.requires.ready),
     )
 
+pub calls::call_defined-tell_enter-requires-clause-room : goal.calls::call_defined-tell_enter-requires-clause-room
+calls::call_defined-tell_enter-requires-clause-room t c =
+    omega (arith, (longer_by c.in_ok-arguments.ensures.follows.added).1, c.requires.ready.room)
+
 pub calls::call_defined-call_found-requires : goal.calls::call_defined-call_found-requires
 calls::call_defined-call_found-requires t c =
     let w = c.args.walk.now in (
-      omega (arith, c.decreases),
+      omega (arith, c.decreases, call_within (program_of w) (mode_of w) c.args.depth c.args.at (use_of c.args.used) c.args.spot c.args.close c.args.ty c.args.function (exprs_view c.args.args.now) c.requires.ready c.is_needed-needed.result c.is_needed-needed.ensures c.in_ok-arguments.ensures, ap (λ xs. nodes_in (program_of w) (mode_of w).scale c.args.depth (set_cost (program_of w) (params_of (slice_get (program_of w).functions c.args.function)) xs) c.args.function) c.as_slice.ensures.value),
       (
         c.requires.walk,
-        subst (λ z. CallReady (program_of w) (mode_of w) c.args.depth c.args.function c.is_needed-needed.result c.args.ty c.evals.new.sym z) (sym c.as_slice.ensures.value)
-            (call_ready (program_of w) (mode_of w) c.args.depth c.args.at (use_of c.args.used) c.args.spot c.args.close c.args.ty c.args.function (exprs_view c.args.args.now) c.requires.ready c.is_needed-needed.result c.is_needed-needed.ensures c.in_ok-arguments.ensures),
+        subst (λ z. CallReady (program_of w) (mode_of w) c.args.depth c.args.close c.args.function c.is_needed-needed.result c.args.ty c.tell_enter.new.sym z) (sym c.as_slice.ensures.value)
+            (call_ready (program_of w) (mode_of w) c.args.depth c.args.at (use_of c.args.used) c.args.spot c.args.close c.args.ty c.args.function (exprs_view c.args.args.now) c.requires.ready c.is_needed-needed.result c.is_needed-needed.ensures c.in_ok-arguments.ensures c.in_ok-tell_enter.ensures),
       ),
     )
 
@@ -1991,8 +2321,8 @@ pub calls::call_defined-returns : goal.calls::call_defined-returns
 calls::call_defined-returns t c =
     let w = c.args.walk.now in
     call_values (program_of w) (mode_of w) c.args.depth c.args.at (use_of c.args.used) c.args.spot c.args.close c.args.ty c.args.function (exprs_view c.args.args.now) c.requires.ready c.is_needed-needed.result c.is_needed-needed.ensures c.in_ok-arguments.ensures
-    (untold w c.evals.new.sym (λ v. Enter c.args.close) c.in_ok-arguments.ensures.follows.fits)
-    (subst (λ z. Called (program_of w) (mode_of w) c.args.depth c.args.function c.is_needed-needed.result c.args.ty z c.evals.new.sym c.call_found.new.sym c.in_ok-bits.bits.bits) c.as_slice.ensures.value c.in_ok-bits.ensures)
+    c.in_ok-tell_enter.ensures
+    (subst (λ z. Called (program_of w) (mode_of w) c.args.depth c.args.close c.args.function c.is_needed-needed.result c.args.ty z c.tell_enter.new.sym c.call_found.new.sym c.in_ok-bits.bits.bits) c.as_slice.ensures.value c.in_ok-bits.ensures)
 
 -- ---- `switch`
 pub switches::chosen-full-requires : goal.switches::chosen-full-requires
@@ -2033,8 +2363,40 @@ switches::chosen-case_bits-requires-clause-room t c =
     subst (λ k. length c.convert.new.sym.net + cases_cost p.model k ls < 2 ^ 28) (sym (c.promote-ty.ensures ∙ ap promote_of c.type_of-from.ensures))
     (cases_room p W c.args.depth c.args.at e ls c.requires.ready c.in_ok-x.ensures y)
 
+pub switches::chosen-tell_choice-requires-clause-fits : goal.switches::chosen-tell_choice-requires-clause-fits
+switches::chosen-tell_choice-requires-clause-fits t c =
+    c.in_ok-cases.ensures.turned.fits
+
+pub switches::chosen-tell_choice-requires-clause-value_in : goal.switches::chosen-tell_choice-requires-clause-value_in
+switches::chosen-tell_choice-requires-clause-value_in t c =
+    are_typed_added c.in_ok-cases.ensures.turned.added c.in_ok-y.ensures.bits_in
+
+pub switches::chosen-tell_choice-requires-clause-cases_in : goal.switches::chosen-tell_choice-requires-clause-cases_in
+switches::chosen-tell_choice-requires-clause-cases_in t c =
+    subst (λ cs. AreIn c.case_bits.new.sym.net cs) (sym c.deref.ensures.value) c.in_ok-cases.ensures.inside
+
+pub switches::chosen-tell_choice-requires-clause-are_cases : goal.switches::chosen-tell_choice-requires-clause-are_cases
+switches::chosen-tell_choice-requires-clause-are_cases t c =
+    let p = program_of c.args.walk.now in
+    let ls = labels_in (switch_view c.args.arms.now) in
+    λ v. ap (map (holds v c.case_bits.new.sym.net)) c.deref.ensures.value ∙ c.in_ok-cases.ensures.are v
+    ∙ ap (λ z. map (is_case z) ls) (sym (typed_added c.in_ok-cases.ensures.turned.added p.model c.promote-ty.result v c.in_ok-y.y.bits c.in_ok-y.ensures.bits_in))
+
+pub switches::chosen-tell_choice-requires-clause-room : goal.switches::chosen-tell_choice-requires-clause-room
+switches::chosen-tell_choice-requires-clause-room t c =
+    let p = program_of c.args.walk.now in
+    let W = mode_of c.args.walk.now in
+    let e = expr_view c.args.test.now in
+    let ls = labels_in (switch_view c.args.arms.now) in
+    let kind = c.promote-ty.ensures ∙ ap promote_of c.type_of-from.ensures in
+    let y = promoted_as p W c.args.depth c.args.at e ls c.requires.ready c.in_ok-x.ensures c.type_of-from.result c.promote-ty.result c.type_of-from.ensures c.promote-ty.ensures c.in_ok-y.ensures in
+    let z = subst (λ k. AreCases p k c.in_ok-y.y.bits ls c.convert.new.sym c.case_bits.new.sym c.in_ok-cases.cases.items) kind c.in_ok-cases.ensures in
+    let many = ap length c.deref.ensures.value ∙ cases_many p W c.args.depth c.args.at e ls c.requires.ready c.in_ok-x.ensures y z in
+    told_room p W c.args.depth c.args.at e ls c.requires.ready c.in_ok-x.ensures y z (length c.deref.result.now) many
+
 pub switches::chosen-enter_arms-requires-clause-fits : goal.switches::chosen-enter_arms-requires-clause-fits
-switches::chosen-enter_arms-requires-clause-fits t c = c.in_ok-cases.ensures.turned.fits
+switches::chosen-enter_arms-requires-clause-fits t c =
+    c.in_ok-tell_choice.ensures.fits
 
 pub switches::chosen-enter_arms-requires-clause-many : goal.switches::chosen-enter_arms-requires-clause-many
 switches::chosen-enter_arms-requires-clause-many t c =
@@ -2044,12 +2406,21 @@ switches::chosen-enter_arms-requires-clause-many t c =
     let ls = labels_in (switch_view c.args.arms.now) in
     let kind = c.promote-ty.ensures ∙ ap promote_of c.type_of-from.ensures in
     let y = promoted_as p W c.args.depth c.args.at e ls c.requires.ready c.in_ok-x.ensures c.type_of-from.result c.promote-ty.result c.type_of-from.ensures c.promote-ty.ensures c.in_ok-y.ensures in
-    ap length c.deref.ensures.value
-    ∙ cases_many p W c.args.depth c.args.at e ls c.requires.ready c.in_ok-x.ensures y
-    (subst (λ k. AreCases p k c.in_ok-y.y.bits ls c.convert.new.sym c.case_bits.new.sym c.in_ok-cases.cases.items) kind c.in_ok-cases.ensures) ∙ labels_many c.args.arms.now
+    let z = subst (λ k. AreCases p k c.in_ok-y.y.bits ls c.convert.new.sym c.case_bits.new.sym c.in_ok-cases.cases.items) kind c.in_ok-cases.ensures in
+    ap length c.deref-2.ensures.value ∙ cases_many p W c.args.depth c.args.at e ls c.requires.ready c.in_ok-x.ensures y z ∙ labels_many c.args.arms.now
 
 pub switches::chosen-enter_arms-requires-clause-cases_in : goal.switches::chosen-enter_arms-requires-clause-cases_in
-switches::chosen-enter_arms-requires-clause-cases_in t c = subst (λ cs. AreIn c.case_bits.new.sym.net cs) (sym c.deref.ensures.value) c.in_ok-cases.ensures.inside
+switches::chosen-enter_arms-requires-clause-cases_in t c =
+    let p = program_of c.args.walk.now in
+    let W = mode_of c.args.walk.now in
+    let e = expr_view c.args.test.now in
+    let ls = labels_in (switch_view c.args.arms.now) in
+    let kind = c.promote-ty.ensures ∙ ap promote_of c.type_of-from.ensures in
+    let y = promoted_as p W c.args.depth c.args.at e ls c.requires.ready c.in_ok-x.ensures c.type_of-from.result c.promote-ty.result c.type_of-from.ensures c.promote-ty.ensures c.in_ok-y.ensures in
+    let z = subst (λ k. AreCases p k c.in_ok-y.y.bits ls c.convert.new.sym c.case_bits.new.sym c.in_ok-cases.cases.items) kind c.in_ok-cases.ensures in
+    let many = ap length c.deref.ensures.value ∙ cases_many p W c.args.depth c.args.at e ls c.requires.ready c.in_ok-x.ensures y z in
+    let ev = subst (λ k. Turned p (length c.deref.result.now + W.scale.test c.args.at) 0 c.case_bits.new.sym c.tell_choice.new.sym (λ v. telling W (Branch c.args.at (way_for (typed p.model k v c.case_bits.new.sym.net c.in_ok-y.y.bits) ls)))) kind c.in_ok-tell_choice.ensures in
+    subst (λ cs. AreIn c.tell_choice.new.sym.net cs) (sym c.deref-2.ensures.value) (cases_then p W c.args.depth c.args.at e ls c.requires.ready c.in_ok-x.ensures y z (length c.deref.result.now) many ev)
 
 pub switches::chosen-enter_arms-requires-clause-room : goal.switches::chosen-enter_arms-requires-clause-room
 switches::chosen-enter_arms-requires-clause-room t c =
@@ -2059,8 +2430,10 @@ switches::chosen-enter_arms-requires-clause-room t c =
     let ls = labels_in (switch_view c.args.arms.now) in
     let kind = c.promote-ty.ensures ∙ ap promote_of c.type_of-from.ensures in
     let y = promoted_as p W c.args.depth c.args.at e ls c.requires.ready c.in_ok-x.ensures c.type_of-from.result c.promote-ty.result c.type_of-from.ensures c.promote-ty.ensures c.in_ok-y.ensures in
-    entries_room p W c.args.depth c.args.at e ls c.requires.ready c.in_ok-x.ensures y
-    (subst (λ k. AreCases p k c.in_ok-y.y.bits ls c.convert.new.sym c.case_bits.new.sym c.in_ok-cases.cases.items) kind c.in_ok-cases.ensures) (length c.args.arms.now) (sym (labels_many c.args.arms.now))
+    let z = subst (λ k. AreCases p k c.in_ok-y.y.bits ls c.convert.new.sym c.case_bits.new.sym c.in_ok-cases.cases.items) kind c.in_ok-cases.ensures in
+    let many = ap length c.deref.ensures.value ∙ cases_many p W c.args.depth c.args.at e ls c.requires.ready c.in_ok-x.ensures y z in
+    let ev = subst (λ k. Turned p (length c.deref.result.now + W.scale.test c.args.at) 0 c.case_bits.new.sym c.tell_choice.new.sym (λ v. telling W (Branch c.args.at (way_for (typed p.model k v c.case_bits.new.sym.net c.in_ok-y.y.bits) ls)))) kind c.in_ok-tell_choice.ensures in
+    entries_room p W c.args.depth c.args.at e ls c.requires.ready c.in_ok-x.ensures y z (length c.deref.result.now) many ev (length c.args.arms.now) (sym (labels_many c.args.arms.now))
 
 pub switches::chosen-returns : goal.switches::chosen-returns
 switches::chosen-returns t c =
@@ -2071,9 +2444,10 @@ switches::chosen-returns t c =
     let kind = c.promote-ty.ensures ∙ ap promote_of c.type_of-from.ensures in
     let y = promoted_as p W c.args.depth c.args.at e ls c.requires.ready c.in_ok-x.ensures c.type_of-from.result c.promote-ty.result c.type_of-from.ensures c.promote-ty.ensures c.in_ok-y.ensures in
     let z = subst (λ k. AreCases p k c.in_ok-y.y.bits ls c.convert.new.sym c.case_bits.new.sym c.in_ok-cases.cases.items) kind c.in_ok-cases.ensures in
-    chosen_chooses p W c.args.depth c.args.at e ls c.requires.ready c.in_ok-x.ensures y z (length c.args.arms.now) (sym (labels_many c.args.arms.now))
-    (c.in_ok-bits.ensures (λ v. typed p.model (promote_of (type_of e)) v c.convert.new.sym.net c.in_ok-y.y.bits) (λ v. ap (map (holds v c.case_bits.new.sym.net)) c.deref.ensures.value ∙ z.are v))
-    (untold c.args.walk.now c.enter_arms.new.sym (λ v. Branch c.args.at (way_for (typed p.model (promote_of (type_of e)) v c.convert.new.sym.net c.in_ok-y.y.bits) ls)) (c.in_ok-bits.ensures (λ v. typed p.model (promote_of (type_of e)) v c.convert.new.sym.net c.in_ok-y.y.bits) (λ v. ap (map (holds v c.case_bits.new.sym.net)) c.deref.ensures.value ∙ z.are v)).turned.fits)
+    let many = ap length c.deref.ensures.value ∙ cases_many p W c.args.depth c.args.at e ls c.requires.ready c.in_ok-x.ensures y z in
+    let ev = subst (λ k. Turned p (length c.deref.result.now + W.scale.test c.args.at) 0 c.case_bits.new.sym c.tell_choice.new.sym (λ v. telling W (Branch c.args.at (way_for (typed p.model k v c.case_bits.new.sym.net c.in_ok-y.y.bits) ls)))) kind c.in_ok-tell_choice.ensures in
+    chosen_chooses p W c.args.depth c.args.at e ls c.requires.ready c.in_ok-x.ensures y z (length c.deref.result.now) many ev (length c.args.arms.now) (sym (labels_many c.args.arms.now))
+    (c.in_ok-bits.ensures (λ v. typed p.model (promote_of (type_of e)) v c.convert.new.sym.net c.in_ok-y.y.bits) (λ v. ap (map (holds v c.tell_choice.new.sym.net)) c.deref-2.ensures.value ∙ cases_still p W c.args.depth c.args.at e ls c.requires.ready c.in_ok-x.ensures y z (length c.deref.result.now) many ev v))
 
 pub switches::one_arm-narrow-requires-clause-fits : goal.switches::one_arm-narrow-requires-clause-fits
 switches::one_arm-narrow-requires-clause-fits t c = c.requires.ready.fits

@@ -1,19 +1,19 @@
-use Rattle.std.proofs.Common.{◌+◌, ◌*◌, None, Some, take}
+use Rattle.std.proofs.Common.{◌+◌, ◌*◌, None, Some, slice_get, take}
 use Rattle.c_core.specs.Tree.{Expr, Index, Unary, Cast, Step, Binary, Logic, Choose, Comma, Assign, Call, MoreExp, NoExp, MoreName, NoName, Do, Block, If, Return, Switch}
 use Rattle.c_core.specs.View.{expr_view, exprs_view, expr_view_if, first_view, form_view, init_view, names_view, rows_view, stmt_view, stmts_view, switch_view}
 use Rattle.c_core.specs.declared.tree.Callee.TheVariants.{Exit, Defined}
 use Rattle.sym_exprs.specs.Evaluating.{weight_of as expression_weight}
 use Rattle.sym_exprs.specs.Targeting.{weight_of_target}
-use Rattle.sym_invariants.specs.Walking.{program_of, mode_of, invariants_of}
+use Rattle.sym_walk.specs.Walking.{program_of, mode_of}
 use Rattle.sym_weight.specs.Views.{else_of}
 use Rattle.sym_eval.specs.Doing.{weight_of_initials, InitialsDo, weight_of_rows, RowsDo, weight_of_initial, weight_of_names, NamesDo, weight_of_first, weight_of, weight_of_form, weight_of_else, weight_of_block, BlockDoes, weight_of_control}
 use Rattle.c_calls.specs.Loops.{loop_of}
 use Rattle.c_meaning.specs.Meaning.{WhileLoop, DoLoop, ForLoop}
 use Rattle.sym_eval.specs.Control.{weight_of_test, weight_of_step}
-use Rattle.sym_eval.specs.Looping.{weight_of_turn, weight_of_loop}
-use Rattle.sym_weight.specs.Sum.{function_body}
-use Rattle.sym_weight.specs.Weight.{weighing, weight_in, placed_weight}
-use Rattle.sym_eval.specs.Calling.{weight_of_all, AllValues}
+use Rattle.sym_eval.specs.Looping.{weight_of_turn, weight_of_turns, weight_of_loop}
+use Rattle.sym_scale.specs.Cost.{function_body, nodes_in, nodes}
+use Rattle.sym_weight.specs.Table.{params_of}
+use Rattle.sym_eval.specs.Calling.{weight_of_all, set_cost, AllValues}
 use Rattle.sym_exprs.specs.Evaluating as evaluating
 use Rattle.sym_eval.specs.Switching.{ArmsDo}
 use Rattle.sym_eval.proofs.+walk.Given as goal
@@ -158,13 +158,13 @@ abbrev pub decreases-control::full : goal.decreases-control::full
 decreases-control::full l = 4 * evaluating.weight_of (program_of l.walk.now) (mode_of l.walk.now) l.depth (expr_view l.e.now) + 3
 
 abbrev pub decreases-control::decided : goal.decreases-control::decided
-decreases-control::decided l = 4 * weight_of_control (program_of l.walk.now) (mode_of l.walk.now) l.depth (expr_view l.e.now) + 4
+decreases-control::decided l = 4 * weight_of_control (program_of l.walk.now) (mode_of l.walk.now) l.depth l.at (expr_view l.e.now) + 4
 
 abbrev pub decreases-control::test_turn : goal.decreases-control::test_turn
-decreases-control::test_turn l = 4 * weight_of_control (program_of l.walk.now) (mode_of l.walk.now) l.depth (expr_view l.e.now) + 5
+decreases-control::test_turn l = 4 * weight_of_control (program_of l.walk.now) (mode_of l.walk.now) l.depth l.at (expr_view l.e.now) + 5
 
 abbrev pub decreases-control::test_turn_if : goal.decreases-control::test_turn_if
-decreases-control::test_turn_if l = 4 * weight_of_test (program_of l.walk.now) (mode_of l.walk.now) l.depth (expr_view_if l.e.now) + 6
+decreases-control::test_turn_if l = 4 * weight_of_test (program_of l.walk.now) (mode_of l.walk.now) l.depth l.at (expr_view_if l.e.now) + 6
 
 abbrev pub decreases-control::step_on : goal.decreases-control::step_on
 decreases-control::step_on l = 4 * weight_of_step (program_of l.walk.now) (mode_of l.walk.now) l.depth (expr_view_if l.e.now) + 4
@@ -173,26 +173,38 @@ abbrev pub decreases-loops::loop_body : goal.decreases-loops::loop_body
 decreases-loops::loop_body l = 4 * weight_of (program_of l.walk.now) (mode_of l.walk.now) l.depth l.gives (stmt_view l.body.now) + 1
 
 abbrev pub decreases-loops::while_turn : goal.decreases-loops::while_turn
-decreases-loops::while_turn l = 4 * weight_of_turn (program_of l.walk.now) (mode_of l.walk.now) l.depth l.gives (Some (WhileLoop (expr_view l.test.now) (stmt_view l.body.now))) + 7
+decreases-loops::while_turn l = 4 * weight_of_turn (program_of l.walk.now) (mode_of l.walk.now) l.depth l.gives l.at (Some (WhileLoop (expr_view l.test.now) (stmt_view l.body.now))) + 7
 
 abbrev pub decreases-loops::do_turn : goal.decreases-loops::do_turn
-decreases-loops::do_turn l = 4 * weight_of_turn (program_of l.walk.now) (mode_of l.walk.now) l.depth l.gives (Some (DoLoop (stmt_view l.body.now) (expr_view l.test.now))) + 7
+decreases-loops::do_turn l = 4 * weight_of_turn (program_of l.walk.now) (mode_of l.walk.now) l.depth l.gives l.at (Some (DoLoop (stmt_view l.body.now) (expr_view l.test.now))) + 7
 
 abbrev pub decreases-loops::for_turn : goal.decreases-loops::for_turn
-decreases-loops::for_turn l = 4 * weight_of_turn (program_of l.walk.now) (mode_of l.walk.now) l.depth l.gives (Some (ForLoop (expr_view_if l.test.now) (expr_view_if l.step.now) (stmt_view l.body.now))) + 7
+decreases-loops::for_turn l = 4 * weight_of_turn (program_of l.walk.now) (mode_of l.walk.now) l.depth l.gives l.at (Some (ForLoop (expr_view_if l.test.now) (expr_view_if l.step.now) (stmt_view l.body.now))) + 7
 
 abbrev pub decreases-loops::turn : goal.decreases-loops::turn
-decreases-loops::turn l = 4 * weight_of_turn (program_of l.walk.now) (mode_of l.walk.now) l.depth l.gives (loop_of (form_view l.f.now)) + 8
+decreases-loops::turn l = 4 * weight_of_turn (program_of l.walk.now) (mode_of l.walk.now) l.depth l.gives l.at (loop_of (form_view l.f.now)) + 8
+
+abbrev pub decreases-loops::one_turn : goal.decreases-loops::one_turn
+decreases-loops::one_turn l = 4 * weight_of_loop (program_of l.walk.now) (mode_of l.walk.now) l.depth l.gives l.at (loop_of (form_view l.f.now)) + 11
+
+abbrev pub decreases-loops::last_test : goal.decreases-loops::last_test
+decreases-loops::last_test l = 4 * weight_of_turns (program_of l.walk.now) (mode_of l.walk.now) l.depth l.gives 0 l.at (loop_of (form_view l.f.now)) + 9
+
+abbrev pub decreases-loops::turns : goal.decreases-loops::turns
+decreases-loops::turns l = 4 * weight_of_turns (program_of l.walk.now) (mode_of l.walk.now) l.depth l.gives l.left l.at (loop_of (form_view l.f.now)) + (l.left + 10)
+
+abbrev pub decreases-loops::all_turns : goal.decreases-loops::all_turns
+decreases-loops::all_turns l = 4 * weight_of_loop (program_of l.walk.now) (mode_of l.walk.now) l.depth l.gives l.at (loop_of (form_view l.f.now)) + 11
 
 abbrev pub decreases-loops::loop_scope : goal.decreases-loops::loop_scope
-decreases-loops::loop_scope l = 4 * weight_of_loop (program_of l.walk.now) (mode_of l.walk.now) l.depth l.gives l.at (loop_of (form_view l.f.now)) + 9
+decreases-loops::loop_scope l = 4 * weight_of_loop (program_of l.walk.now) (mode_of l.walk.now) l.depth l.gives l.at (loop_of (form_view l.f.now)) + 12
 
 abbrev pub decreases-loops::for_scope : goal.decreases-loops::for_scope
 decreases-loops::for_scope l =
-    4 * (weight_of_first (program_of l.walk.now) (mode_of l.walk.now) l.depth (first_view l.start.now) + weight_of_loop (program_of l.walk.now) (mode_of l.walk.now) l.depth l.gives l.at (loop_of (form_view l.f.now))) + 11
+    4 * (weight_of_first (program_of l.walk.now) (mode_of l.walk.now) l.depth (first_view l.start.now) + weight_of_loop (program_of l.walk.now) (mode_of l.walk.now) l.depth l.gives l.at (loop_of (form_view l.f.now))) + 13
 
 abbrev pub decreases-loops::one_loop : goal.decreases-loops::one_loop
-decreases-loops::one_loop l = 4 * weight_of_form (program_of l.walk.now) (mode_of l.walk.now) l.depth l.gives l.at (form_view l.f.now) + 12
+decreases-loops::one_loop l = 4 * weight_of_form (program_of l.walk.now) (mode_of l.walk.now) l.depth l.gives l.at (form_view l.f.now) + 14
 
 abbrev pub decreases-calls::evals : goal.decreases-calls::evals
 decreases-calls::evals l = 4 * weight_of_all (program_of l.walk.now) (mode_of l.walk.now) l.depth (exprs_view l.args.now) + 3
@@ -201,11 +213,12 @@ abbrev pub decreases-calls::call_defined : goal.decreases-calls::call_defined
 decreases-calls::call_defined l = 4 * expression_weight (program_of l.walk.now) (mode_of l.walk.now) l.depth (Expr l.spot l.ty (Call (Defined l.function) (exprs_view l.args.now) l.close)) + 0
 
 abbrev pub decreases-calls::call_found : goal.decreases-calls::call_found
-decreases-calls::call_found l = 4 * weight_in (program_of l.walk.now) (invariants_of l.walk.now) l.depth l.function + 3
+decreases-calls::call_found l =
+    4 * nodes_in (program_of l.walk.now) (mode_of l.walk.now).scale l.depth (set_cost (program_of l.walk.now) (params_of (slice_get (program_of l.walk.now).functions l.function)) l.arguments.now) l.function + 3
 
 abbrev pub decreases-calls::run_function : goal.decreases-calls::run_function
 decreases-calls::run_function l =
-    4 * function_body (program_of l.walk.now) (weighing (weight_in (program_of l.walk.now) (invariants_of l.walk.now) l.depth)) (placed_weight (program_of l.walk.now) (invariants_of l.walk.now)) l.function.now.result (stmt_view l.function.now.body) + 2
+    4 * function_body (program_of l.walk.now) (nodes (program_of l.walk.now) (mode_of l.walk.now).scale l.depth) l.function.now.result (stmt_view l.function.now.body) + 2
 
 -- the arguments so far have their values
 abbrev pub invariant-calls::evals-loop-e : goal.invariant-calls::evals-loop-e

@@ -14,9 +14,10 @@ use Rattle.wv_schema.specs.declared.witness.Witness.{Witness}
 use Rattle.wv_task.specs.Task.{judged}
 use Rattle.wv_yaml.specs.Reading.{IsAnswer}
 use Rattle.wv_yaml.specs.declared.tree.Tree.{Tree}
-use Rattle.witval.specs.Purposes.{Purpose, RightOnWork, ToRecheck, Work, working}
+use Rattle.witval.specs.Purposes.{IsKind, Purpose, RightOnWork, ToRecheck, Work, working}
 use Rattle.witval.specs.Refusals.{IsRefusal, IsSchemaRefusal, IsTaskRefusal, IsCertificateRefusal, IsTokenRefusal, IsSyntaxRefusal, IsCheckRefusal}
-use Rattle.witval.specs.Stages.{◌>>=◌, known, answered, itself, refusing}
+use Rattle.witval.specs.Stages.{◌>>=◌, known, answered, choosing, itself, refusing}
+use Rattle.witval.specs.Tasks.{holds_sets}
 use Rattle.witval.specs.declared.output.Output.{Output}
 
 -- with the items of a source
@@ -42,6 +43,11 @@ abbrev pub RightOnLogs : List ℕ → Property → List ℕ → Witness → Data
 RightOnLogs bytes property program_bytes witness model = do
   logs ← answered (CertificateAnswers bytes) itself (refusing IsCertificateRefusal)
   RightOnText (ToRecheck logs) property program_bytes witness model
+
+-- with the data model of the task, and what is to be done for violation sequences alone
+abbrev pub RightOnSegmentsAlone : Work → Property → List ℕ → Witness → DataModel → Output → Type 0
+RightOnSegmentsAlone work property program_bytes witness model =
+    choosing (holds_sets witness) IsKind (RightOnText work property program_bytes witness model)
 
 -- with the data model of the task
 abbrev pub RightOnModel : Purpose → Property → List ℕ → Witness → DataModel → Output → Type 0

@@ -2,7 +2,7 @@ use mir.Val.{SFits}
 use mir.Syntax.{w128}
 use Rattle.std.proofs.lemmas.Int.{to_z-of_z}
 use Rattle.std.proofs.Common.{rules}
-use Rattle.sym_invariants.specs.Walking.{program_of, mode_of}
+use Rattle.sym_walk.specs.Walking.{program_of, mode_of}
 use Rattle.sym_exprs.proofs.Forms.{const_step}
 use Rattle.sym_eval.proofs.expressions.constant.Goals as goal
 

@@ -1,6 +1,6 @@
 use Rattle.std.proofs.Common.{◌∙◌, sym, ap}
 use Rattle.c_meaning.specs.Objects.{type_or_int}
-use Rattle.sym_invariants.specs.Walking.{program_of, mode_of}
+use Rattle.sym_walk.specs.Walking.{program_of, mode_of}
 use Rattle.sym_exprs.proofs.Typed.{scalar_parts}
 use Rattle.sym_exprs.proofs.Forms.{var_step}
 use Rattle.sym_eval.proofs.expressions.scalar.Goals as goal

@@ -15,5 +15,6 @@ returns c =
     let nine = c.in_ok-arg-9.ensures.shape c.option_or-3.ensures.local ∙ ap₂ with_rule eight c.option_or-3.ensures.rule in
     let ten = c.in_ok-arg-10.ensures.shape c.number_or.ensures.local ∙ ap₂ with_rule nine c.number_or.ensures.rule in
     let eleven = c.in_ok-arg-11.ensures.shape c.number_or-2.ensures.local ∙ ap₂ with_rule ten c.number_or-2.ensures.rule in
-    let twelve = c.in_ok-arg-12.ensures.shape c.number.ensures.local ∙ ap₂ with_rule eleven c.number.ensures.rule in
-    c.in_ok-command.ensures.shape c.flag.ensures.local ∙ ap₂ with_rule twelve c.flag.ensures.rule
+    let twelve = c.in_ok-arg-12.ensures.shape c.number_or-3.ensures.local ∙ ap₂ with_rule eleven c.number_or-3.ensures.rule in
+    let thirteen = c.in_ok-arg-13.ensures.shape c.number.ensures.local ∙ ap₂ with_rule twelve c.number.ensures.rule in
+    c.in_ok-command.ensures.shape c.flag.ensures.local ∙ ap₂ with_rule thirteen c.flag.ensures.rule

@@ -1,0 +1,3 @@
+pub mod Scale
+pub mod Cost
+pub mod Obliged

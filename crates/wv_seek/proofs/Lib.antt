@@ -1,0 +1,2 @@
+mod Unrolled
+mod Searched
