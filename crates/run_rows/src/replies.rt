@@ -9,7 +9,7 @@ use wv_base::{MemorySink, OutOfMemory};
 /// Whether a word of the viewer's is one of the validator's too.
 fn is_shared(word: &str) -> bool {
     let is_form = matches!(word, "--sarif" | "--html" | "--json" | "--counts");
-    !is_form && word != "validate"
+    !is_form && word != "validate" && word != "seek"
 }
 
 /// Whether a word is an option of the viewer's alone, after which its value stands.
@@ -22,6 +22,9 @@ fn mode_of(line: &str) -> &'static str {
     for word in line.split(' ') {
         if word == "--certificate" {
             return "recheck";
+        }
+        if word == "seek" {
+            return "seek";
         }
     }
     "validate"

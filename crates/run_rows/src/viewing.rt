@@ -4,24 +4,10 @@ use crate::replies::begins_with_reply;
 use row_files::{Files, NotTried, Row};
 use row_sarif::lacking;
 use std::alloc::Global;
-use view_inputs::{Asked, Form, Part, read_words};
+use view_inputs::{Asked, Asking, Form, Part, read_words};
 use view_judging::{hand_out, shown, usage_reply};
-use wv_arguments::{Budgets, Names};
+use wv_arguments::Names;
 use wv_base::OutOfMemory;
-
-/// Checking a certificate again spends none of it.
-const LEAST: Budgets = Budgets {
-    steps: 1,
-    conflicts: 1,
-};
-
-/// What is judged, or checked again.
-#[derive(Clone, Copy)]
-struct Judging<'a> {
-    names: Names<'a>,
-    certificate: Option<&'a str>,
-    budgets: Budgets,
-}
 
 /// A part of a certificate, with the status before it, and behind it what goes to standard error.
 fn given_out(
@@ -44,18 +30,12 @@ fn given_out(
 fn shown_as(
     files: &Files<'_>,
     row: &Row,
-    asked: &Judging<'_>,
+    names: &Names<'_>,
+    asking: Asking<'_>,
     form: Form,
 ) -> Result<String, NotTried> {
     let alloc = files.alloc();
-    let shown = shown(
-        alloc,
-        &asked.names,
-        asked.certificate,
-        asked.budgets,
-        form,
-        shelf(files, row)?,
-    )?;
+    let shown = shown(alloc, names, asking, form, shelf(files, row)?)?;
     let status = shown.status;
     let text = String::from_utf8_lossy(alloc, shown.bytes.as_slice())?;
     Ok(format!(in alloc; "{status} {text}")?)
@@ -65,21 +45,22 @@ fn shown_as(
 fn judged(
     files: &Files<'_>,
     row: &Row,
-    asked: &Judging<'_>,
+    names: &Names<'_>,
+    asking: Asking<'_>,
     form: Form,
 ) -> Result<String, NotTried> {
-    let text = shown_as(files, row, asked, Form::Text)?;
+    let text = shown_as(files, row, names, asking, Form::Text)?;
     if !begins_with_reply(files, row, text.as_str())? {
         return Ok(format!(in files.alloc(); "the reply isn't that of `run`: {text}")?);
     }
-    let log = shown_as(files, row, asked, Form::Sarif)?;
+    let log = shown_as(files, row, names, asking, Form::Sarif)?;
     if let Some(member) = lacking(files.alloc(), log.as_str())? {
         return Ok(format!(in files.alloc(); "the log lacks {member}: {log}")?);
     }
     match form {
         Form::Text => Ok(text),
         Form::Sarif => Ok(log),
-        Form::Html | Form::Json | Form::Screen(_) => shown_as(files, row, asked, form),
+        Form::Html | Form::Json | Form::Screen(_) => shown_as(files, row, names, asking, form),
     }
 }
 
@@ -98,28 +79,9 @@ pub fn told(files: &Files<'_>, row: &Row) -> Result<String, NotTried> {
     match read_words(alloc, words.as_slice())? {
         Asked::Judge {
             names,
-            budgets,
+            asking,
             form,
-        } => {
-            let asked = Judging {
-                names,
-                certificate: None,
-                budgets,
-            };
-            judged(files, row, &asked, form)
-        }
-        Asked::Recheck {
-            names,
-            certificate,
-            form,
-        } => {
-            let asked = Judging {
-                names,
-                certificate: Some(certificate),
-                budgets: LEAST,
-            };
-            judged(files, row, &asked, form)
-        }
+        } => judged(files, row, &names, asking, form),
         Asked::Export {
             names,
             certificate,

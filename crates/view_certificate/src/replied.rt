@@ -6,7 +6,7 @@ use crate::walk::log_in;
 use c_core::Spot;
 use std::alloc::Global;
 use view_claims::show_obligations;
-use view_program::explain;
+use view_program::{Question, explain};
 use view_text::{File, Files, Messages, advice};
 use wv_arguments::Budgets;
 use wv_base::OutOfMemory;
@@ -16,6 +16,14 @@ const LEAST: Budgets = Budgets {
     steps: 1,
     conflicts: 1,
 };
+
+/// The stages alone.
+fn stages() -> Question<'static> {
+    Question {
+        budgets: LEAST,
+        values: None,
+    }
+}
 
 /// How many chains each log of a certificate has.
 fn chain_counts(alloc: Global, certificate: &[u8]) -> Result<Vec<u64>, OutOfMemory> {
@@ -92,6 +100,6 @@ pub fn explain_certificate(
     } else if first == "refused kind" {
         explain_kind(alloc, out)
     } else {
-        explain(alloc, files, LEAST, out)
+        explain(alloc, files, stages(), out)
     }
 }

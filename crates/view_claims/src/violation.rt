@@ -85,14 +85,32 @@ struct Judged {
     positions: Option<Seq<u64>>,
 }
 
-/// The run that the segments give, as the judge asks it.
+/// Where the draws of the run take their values from: the segments, or a list of values.
+fn choices_of(
+    alloc: Global,
+    index: &Index,
+    bound: &Bound,
+    values: Option<&[i128]>,
+) -> Result<Choices, OutOfMemory> {
+    let Some(values) = values else {
+        let choices = given_over(alloc, bound, index)?;
+        return Ok(choices);
+    };
+    let mut list = Seq::new(alloc);
+    for value in values {
+        list.push(*value)?;
+    }
+    Ok(Choices::InTurn(list))
+}
+
+/// The run with these choices, as the judge asks it.
 fn judged_run(
     alloc: Global,
     index: &Index,
     bound: &Bound,
+    choices: Choices,
     steps: u64,
 ) -> Result<Judged, OutOfMemory> {
-    let choices = given_over(alloc, bound, index)?;
     let mut matcher = Matcher::new(alloc, bound, index)?;
     let run = run_machine(alloc, index.program(), &choices, steps, &mut matcher)?;
     let positions = matcher.done();
@@ -180,7 +198,7 @@ fn explain_end(
     }
 }
 
-/// The run that the segments give, by its end.
+/// The run that the segments give, or that draws these values, by its end.
 fn explain_run(
     alloc: Global,
     files: &Files<'_>,
@@ -188,9 +206,11 @@ fn explain_run(
     witness: &Witness,
     bound: &Bound,
     steps: u64,
+    values: Option<&[i128]>,
     out: &mut Messages,
 ) -> Result<(), OutOfMemory> {
-    let judged = judged_run(alloc, index, bound, steps)?;
+    let choices = choices_of(alloc, index, bound, values)?;
+    let judged = judged_run(alloc, index, bound, choices, steps)?;
     match judged.run.end {
         End::Violated(_) => explain_violated(
             alloc, files, index, witness, bound, &judged, steps, out,
@@ -199,18 +219,28 @@ fn explain_run(
     }
 }
 
-/// What there is to say of a program and a violation sequence about it.
+/// What there is to say of a program and a violation sequence about it, whose run draws these values where there are some.
 pub fn explain_sequence(
     alloc: Global,
     files: &Files<'_>,
     program: &Program,
     witness: &Witness,
     steps: u64,
+    values: Option<&[i128]>,
     out: &mut Messages,
 ) -> Result<(), OutOfMemory> {
     let lookup = Lookup::new(alloc, program)?;
     match bind(alloc, witness, &lookup) {
-        Ok(bound) => explain_run(alloc, files, &lookup.index, witness, &bound, steps, out),
+        Ok(bound) => explain_run(
+            alloc,
+            files,
+            &lookup.index,
+            witness,
+            &bound,
+            steps,
+            values,
+            out,
+        ),
         Err(fault) => explain_unbound_waypoints(alloc, files, &lookup, witness, fault, out),
     }
 }

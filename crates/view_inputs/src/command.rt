@@ -12,12 +12,12 @@ use wv_base::OutOfMemory;
 const ABOUT: &str =
     "Judges a software verification witness as `witval validate` does, or a certificate as `witval recheck` does, and shows what \
 there is to look at in the files: what a refusal speaks of, why a violation isn't confirmed, which obligation fails and with which \
-values, which line of a certificate is wrong. It also hands a certificate out, in the forms of other checkers.";
+values, which line of a certificate is wrong, or what values `witval seek` found. It also hands a certificate out, in the forms of other checkers.";
 
 const AFTER: &str =
-    "It prints the reply of `witval validate` or `witval recheck` word for word, and then messages in the form of compilers: \
+    "It prints the reply of `witval validate`, `witval recheck` or `witval seek` word for word, and then messages in the form of compilers: \
 FILE:LINE:COLUMN: error: TEXT [code], the line, a caret. Messages are no verdicts of their own.\n\n\
-Status: that of `witval validate` or `witval recheck`: 0 confirmed, 1 not confirmed, 2 undecided, 3 refused, 4 a read fault, 5 a write fault, \
+Status: that of `witval validate`, `witval recheck` or `witval seek`: 0 confirmed, 1 not confirmed, 2 undecided, 3 refused, 4 a read fault, 5 a write fault, \
 6 out of memory, 7 misused arguments; 0 for this help.";
 
 /// How a judgement is shown.
@@ -55,18 +55,28 @@ pub enum Part {
     Lrat(u64),
 }
 
+/// How far values are sought: the most turns of a loop and calls that are active, and the most conflicts.
+#[derive(Clone, Copy, Debug)]
+pub struct Search {
+    pub bound: u64,
+    pub conflicts: u64,
+}
+
+/// What is asked of three files: a verdict, whether a certificate is accepted, or values for the draws that a witness
+/// leaves open.
+#[derive(Clone, Copy, Debug)]
+pub enum Asking<'a> {
+    Judge(Budgets),
+    Recheck(&'a str),
+    Seek(Search),
+}
+
 /// What the arguments ask for.
 #[derive(Drop)]
 pub enum Asked<'a> {
     Judge {
         names: Names<'a>,
-        budgets: Budgets,
-        form: Form,
-    },
-    /// A certificate, checked again.
-    Recheck {
-        names: Names<'a>,
-        certificate: &'a str,
+        asking: Asking<'a>,
         form: Form,
     },
     /// A part of a certificate.
@@ -192,15 +202,22 @@ fn with_budgets<'a>(alloc: Global, command: Command<'a>) -> Result<Command<'a>, 
             "conflicts",
             1_000_000,
             "100000",
-            "The most conflicts on one obligation, 1 to 1000000",
+            "The most conflicts on one obligation, or in seek on all values, 1 to 1000000",
+        ))?
+        .arg(number(
+            alloc,
+            "bound",
+            64,
+            "8",
+            "In seek, the most turns of a loop and the most calls that are active, 1 to 64",
         ))?;
     Ok(command)
 }
 
 fn command<'a>(alloc: Global) -> Result<Command<'a>, AllocError> {
-    let mode = Arg::new(alloc, "mode")
-        .value_name("validate")
-        .help("May stand, as in a command of witval");
+    let mode = Arg::new(alloc, "mode").value_name("MODE").help(
+        "validate, which may be left out, or seek, which looks for values of the draws that the witness leaves open",
+    );
     let command = Command::new(alloc, "witval-view")
         .about(ABOUT)
         .after_help(AFTER)
@@ -262,9 +279,13 @@ fn asked_by<'a>(
     matches: &ArgMatches<'a>,
     screen: Screen,
 ) -> Result<Asked<'a>, OutOfMemory> {
-    match matches.get_str("mode") {
-        Some("validate") | None => {}
-        Some(_) => return misuse(alloc, "error: the one mode is validate\n"),
+    let seeks = match matches.get_str("mode") {
+        Some("validate") | None => false,
+        Some("seek") => true,
+        Some(_) => return misuse(alloc, "error: the modes are validate and seek\n"),
+    };
+    if seeks && !is_of_one_witness(matches) {
+        return misuse(alloc, "error: seek takes one witness, and no certificate\n");
     }
     let Some(look) = wanted_look(matches, screen) else {
         return misuse(alloc, "error: --colour is always, never or auto\n");
@@ -278,8 +299,24 @@ fn asked_by<'a>(
         });
     }
     match names(matches) {
-        Some(names) => Ok(asked_of(matches, names, budgets, wanted_form(matches, look))),
+        Some(names) => {
+            let form = wanted_form(matches, look);
+            Ok(asked_of(matches, names, seeks, budgets, form))
+        }
         None => misuse(alloc, "error: a file isn't named\n"),
+    }
+}
+
+/// Whether neither a list nor a certificate is named.
+fn is_of_one_witness(matches: &ArgMatches<'_>) -> bool {
+    matches.get_str("list").is_none() && matches.get_str("certificate").is_none()
+}
+
+/// How far values are sought.
+fn search(matches: &ArgMatches<'_>, budgets: Budgets) -> Search {
+    Search {
+        bound: matches.get_one::<u64>("bound").unwrap_or(8),
+        conflicts: budgets.conflicts,
     }
 }
 
@@ -287,28 +324,29 @@ fn asked_by<'a>(
 fn asked_of<'a>(
     matches: &ArgMatches<'a>,
     names: Names<'a>,
+    seeks: bool,
     budgets: Budgets,
     form: Form,
 ) -> Asked<'a> {
-    let Some(certificate) = matches.get_str("certificate") else {
-        return Asked::Judge {
-            names,
-            budgets,
-            form,
-        };
+    let asking = match matches.get_str("certificate") {
+        Some(certificate) => match wanted_part(matches) {
+            Some(part) => {
+                return Asked::Export {
+                    names,
+                    certificate,
+                    part,
+                    form,
+                };
+            }
+            None => Asking::Recheck(certificate),
+        },
+        None if seeks => Asking::Seek(search(matches, budgets)),
+        None => Asking::Judge(budgets),
     };
-    match wanted_part(matches) {
-        Some(part) => Asked::Export {
-            names,
-            certificate,
-            part,
-            form,
-        },
-        None => Asked::Recheck {
-            names,
-            certificate,
-            form,
-        },
+    Asked::Judge {
+        names,
+        asking,
+        form,
     }
 }
 

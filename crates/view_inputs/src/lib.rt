@@ -9,7 +9,7 @@ mod names;
 mod reply_sink;
 mod screen;
 
-pub use command::{Asked, Form, ListForm, Part, read_words, read_words_at};
+pub use command::{Asked, Asking, Form, ListForm, Part, Search, read_words, read_words_at};
 pub use keeping::Keeping;
 pub use names::names_in;
 pub use reply_sink::ReplySink;

@@ -1,18 +1,12 @@
 // A part of a certificate, handed out to other checkers.
 use crate::replying::{replied_to, usage_reply};
-use crate::showing::{Asking, Output, files_of, output_of};
+use crate::showing::{Output, files_of, output_of};
 use std::alloc::Global;
 use view_certificate::{Obliged, exported, manifest, obliged_by};
-use view_inputs::{Form, Keeping, Part};
+use view_inputs::{Asking, Form, Keeping, Part};
 use view_text::{File, Files};
-use wv_arguments::{Budgets, Names};
+use wv_arguments::Names;
 use wv_base::{OutOfMemory, Shelf};
-
-/// Checking a certificate spends none of it.
-const LEAST: Budgets = Budgets {
-    steps: 1,
-    conflicts: 1,
-};
 
 /// What is printed, and what is said on standard error.
 #[derive(Drop)]
@@ -85,7 +79,7 @@ pub fn hand_out<S: Shelf + Drop>(
     shelf: S,
 ) -> Result<Handed, OutOfMemory> {
     let mut shelf = Keeping::new(alloc, shelf);
-    let replied = replied_to(alloc, names, Some(certificate), LEAST, &mut shelf)?;
+    let replied = replied_to(alloc, names, Asking::Recheck(certificate), &mut shelf)?;
     if shelf.is_lost() {
         return Err(OutOfMemory);
     }
@@ -108,7 +102,7 @@ pub fn hand_out<S: Shelf + Drop>(
             return part_of(alloc, &files, &found, part);
         }
     }
-    let output = output_of(alloc, &files, &replied, Asking::Recheck, form)?;
+    let output = output_of(alloc, &files, &replied, Asking::Recheck(certificate), form)?;
     Ok(Handed {
         output,
         told: String::new(alloc),

@@ -6,6 +6,7 @@
 mod handing;
 mod listed;
 mod replying;
+mod searching;
 mod showing;
 
 pub use handing::{Handed, hand_out};

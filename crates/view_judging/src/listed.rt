@@ -1,9 +1,9 @@
 // Many judgements in order: a line of JSON or a row of a page for each, and the worst status at the end.
 use crate::replying::{Replied, replied_to};
-use crate::showing::{Asking, files_of, json_line, messages_of};
+use crate::showing::{files_of, json_line, messages_of};
 use serde_json::json;
 use std::alloc::Global;
-use view_inputs::{Keeping, ListForm, names_in};
+use view_inputs::{Asking, Keeping, ListForm, names_in};
 use view_pages::{list_head, list_row, list_tail};
 use view_text::{Files, escaped_json};
 use wv_arguments::{Budgets, Names};
@@ -143,7 +143,7 @@ fn judge_line<S: Shelf + Drop, O: Sink>(
         return Err(Stop::NoTask(number));
     };
     shelf.forget(alloc);
-    let replied = replied_to(alloc, &names, None, judging.budgets, shelf)?;
+    let replied = replied_to(alloc, &names, Asking::Judge(judging.budgets), shelf)?;
     if shelf.is_lost() {
         return Err(Stop::OutOfMemory);
     }

@@ -1,8 +1,8 @@
 // The reply of the validator to three files.
 use std::alloc::Global;
-use view_inputs::ReplySink;
+use view_inputs::{Asking, ReplySink};
 use witval::run;
-use wv_arguments::{Budgets, Names};
+use wv_arguments::Names;
 use wv_base::{OutOfMemory, Shelf, SteadyShelf};
 
 /// A reply as the validator wrote it, with its status.
@@ -12,37 +12,57 @@ pub struct Replied {
     pub reply: Vec<u8>,
 }
 
-/// A certificate is checked again, and all else is judged.
-fn mode_for(certificate: Option<&str>) -> &'static str {
-    match certificate {
-        Some(_) => "recheck",
-        None => "validate",
+/// The mode of the validator that answers it.
+fn mode_for(asking: Asking<'_>) -> &'static str {
+    match asking {
+        Asking::Judge(_) => "validate",
+        Asking::Recheck(_) => "recheck",
+        Asking::Seek(_) => "seek",
     }
+}
+
+/// The options of the validator beside its files.
+fn push_options(
+    alloc: Global,
+    words: &mut Vec<String>,
+    asking: Asking<'_>,
+) -> Result<(), OutOfMemory> {
+    match asking {
+        Asking::Judge(budgets) => {
+            let steps = budgets.steps;
+            let conflicts = budgets.conflicts;
+            words.push(format!(in alloc; "--steps={steps}")?)?;
+            words.push(format!(in alloc; "--conflicts={conflicts}")?)?;
+        }
+        Asking::Recheck(certificate) => {
+            words.push(format!(in alloc; "--certificate={certificate}")?)?;
+        }
+        Asking::Seek(search) => {
+            let bound = search.bound;
+            let conflicts = search.conflicts;
+            words.push(format!(in alloc; "--bound={bound}")?)?;
+            words.push(format!(in alloc; "--conflicts={conflicts}")?)?;
+        }
+    }
+    Ok(())
 }
 
 /// The words with which the validator is asked.
 fn words_for(
     alloc: Global,
     names: &Names<'_>,
-    certificate: Option<&str>,
-    budgets: Budgets,
+    asking: Asking<'_>,
 ) -> Result<Vec<String>, OutOfMemory> {
     let program = names.program;
     let property = names.property;
     let witness = names.witness;
-    let steps = budgets.steps;
-    let conflicts = budgets.conflicts;
     let mut words = Vec::new(alloc);
     words.push(String::from_str(alloc, "witval")?)?;
-    words.push(String::from_str(alloc, mode_for(certificate))?)?;
+    words.push(String::from_str(alloc, mode_for(asking))?)?;
     words.push(format!(in alloc; "--program={program}")?)?;
     words.push(format!(in alloc; "--property={property}")?)?;
     words.push(format!(in alloc; "--witness={witness}")?)?;
-    words.push(format!(in alloc; "--steps={steps}")?)?;
-    words.push(format!(in alloc; "--conflicts={conflicts}")?)?;
-    if let Some(certificate) = certificate {
-        words.push(format!(in alloc; "--certificate={certificate}")?)?;
-    }
+    push_options(alloc, &mut words, asking)?;
     Ok(words)
 }
 
@@ -63,15 +83,14 @@ fn reply_to<S: Shelf>(
     })
 }
 
-/// The reply to three files of a shelf, and to a certificate where one is named.
+/// The reply to three files of a shelf, and to a certificate where that is asked about.
 pub fn replied_to<S: Shelf>(
     alloc: Global,
     names: &Names<'_>,
-    certificate: Option<&str>,
-    budgets: Budgets,
+    asking: Asking<'_>,
     shelf: &mut S,
 ) -> Result<Replied, OutOfMemory> {
-    let words = words_for(alloc, names, certificate, budgets)?;
+    let words = words_for(alloc, names, asking)?;
     reply_to(alloc, &words, shelf)
 }
 

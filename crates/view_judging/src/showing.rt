@@ -1,15 +1,16 @@
 // One judgement: the reply of the validator, and what there is to look at.
 use crate::replying::{Replied, replied_to};
+use crate::searching::explain_search;
 use std::alloc::Global;
 use view_certificate::explain_certificate;
-use view_inputs::{Form, Keeping};
+use view_inputs::{Asking, Form, Keeping};
 use view_pages::{json_of, log_of, page_of};
-use view_program::explain;
+use view_program::{Question, explain};
 use view_text::{
     File, Files, Look, Messages, advice, escaped_json, lay_out_counts, lay_out_listing,
     lay_out_message, printable_text,
 };
-use wv_arguments::{Budgets, Names};
+use wv_arguments::Names;
 use wv_base::{OutOfMemory, Shelf};
 
 /// The bytes that are shown of a judgement, and its status.
@@ -34,24 +35,24 @@ fn unread(reply: &str) -> Option<(&'static str, File)> {
     }
 }
 
-/// What was asked: a verdict, or whether a certificate is accepted.
-#[derive(Clone, Copy, Debug)]
-pub enum Asking {
-    Judge(Budgets),
-    Recheck,
-}
-
 /// What there is to say of files that were read whole.
 fn explain_reply(
     alloc: Global,
     files: &Files<'_>,
     reply: &str,
-    asking: Asking,
+    asking: Asking<'_>,
     messages: &mut Messages,
 ) -> Result<(), OutOfMemory> {
     match asking {
-        Asking::Judge(budgets) => explain(alloc, files, budgets, messages),
-        Asking::Recheck => explain_certificate(alloc, files, reply, messages),
+        Asking::Judge(budgets) => {
+            let question = Question {
+                budgets,
+                values: None,
+            };
+            explain(alloc, files, question, messages)
+        }
+        Asking::Recheck(_) => explain_certificate(alloc, files, reply, messages),
+        Asking::Seek(_) => explain_search(alloc, files, reply, messages),
     }
 }
 
@@ -60,7 +61,7 @@ pub fn messages_of(
     alloc: Global,
     replied: &Replied,
     files: &Files<'_>,
-    asking: Asking,
+    asking: Asking<'_>,
 ) -> Result<Messages, OutOfMemory> {
     let reply = String::from_utf8_lossy(alloc, replied.reply.as_slice())?;
     let mut messages = Messages::new(alloc);
@@ -183,12 +184,20 @@ pub fn files_of<'a>(
     }
 }
 
+/// The name of the certificate that is asked about.
+fn certificate_of<'a>(asking: Asking<'a>) -> &'a str {
+    match asking {
+        Asking::Recheck(certificate) => certificate,
+        Asking::Judge(_) | Asking::Seek(_) => "",
+    }
+}
+
 /// All that is shown of a reply, in one of its forms.
 pub fn output_of(
     alloc: Global,
     files: &Files<'_>,
     replied: &Replied,
-    asking: Asking,
+    asking: Asking<'_>,
     form: Form,
 ) -> Result<Output, OutOfMemory> {
     let messages = messages_of(alloc, replied, files, asking)?;
@@ -199,29 +208,24 @@ pub fn output_of(
     })
 }
 
-/// A judgement over the files of a shelf, or a certificate checked again where one is named, in one of its forms.
+/// What is asked of the files of a shelf, answered in one of the forms.
 pub fn shown<S: Shelf + Drop>(
     alloc: Global,
     names: &Names<'_>,
-    certificate: Option<&str>,
-    budgets: Budgets,
+    asking: Asking<'_>,
     form: Form,
     shelf: S,
 ) -> Result<Output, OutOfMemory> {
     let mut shelf = Keeping::new(alloc, shelf);
-    let replied = replied_to(alloc, names, certificate, budgets, &mut shelf)?;
+    let replied = replied_to(alloc, names, asking, &mut shelf)?;
     if shelf.is_lost() {
         return Err(OutOfMemory);
     }
-    let asking = match certificate {
-        Some(_) => Asking::Recheck,
-        None => Asking::Judge(budgets),
-    };
     let program = shelf.kept(0);
     let property = shelf.kept(1);
     let witness = shelf.kept(2);
     let kept = shelf.kept(3);
-    let name = certificate.unwrap_or("");
+    let name = certificate_of(asking);
     let files = files_of(
         names.program,
         names.property,

@@ -12,7 +12,7 @@ use wv_base::OutOfMemory;
 /// So many places of a confirmation are told.
 const MOST: u64 = 1_000;
 
-/// The rule of what a reply confirms.
+/// The rule of what a reply confirms, or of the run that it found.
 pub fn confirmed_code(reply: &str) -> Option<&'static str> {
     if reply.starts_with("violation confirmed\n") {
         Some("violation")
@@ -20,6 +20,8 @@ pub fn confirmed_code(reply: &str) -> Option<&'static str> {
         Some("correctness")
     } else if reply.starts_with("certificate accepted\n") {
         Some("accepted")
+    } else if reply.starts_with("values found\n") {
+        Some("found")
     } else {
         None
     }
@@ -99,19 +101,20 @@ fn program_place(alloc: Global, sources: &Sources<'_>) -> Result<Value, OutOfMem
 fn violation_value(
     alloc: Global,
     sources: &Sources<'_>,
+    code: &str,
     index: u64,
     messages: &[Message],
 ) -> Result<Value, OutOfMemory> {
     let steps = note_values(alloc, sources, messages, true)?;
     let place = violation_place(alloc, sources, messages)?;
-    let told = help_of("violation");
+    let told = help_of(code);
     Ok(json!(in alloc; {
         "codeFlows": [{ "threadFlows": [{ "locations": steps }] }],
         "kind": "fail",
         "level": "error",
         "locations": [{ "physicalLocation": place }],
         "message": { "text": told },
-        "ruleId": "violation",
+        "ruleId": code,
         "ruleIndex": index
     })?)
 }
@@ -147,8 +150,8 @@ pub fn confirmed_value(
     messages: &[Message],
 ) -> Result<Value, OutOfMemory> {
     let index = index_of(codes, code);
-    if code == "violation" {
-        violation_value(alloc, sources, index, messages)
+    if code == "violation" || code == "found" {
+        violation_value(alloc, sources, code, index, messages)
     } else {
         obligations_value(alloc, sources, code, index, messages)
     }

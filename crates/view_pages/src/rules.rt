@@ -16,6 +16,8 @@ pub fn help_of(code: &str) -> &'static str {
         "certificate" => "a line of the certificate isn't what has to stand there",
         "violation" =>
             "the run that the witness gives violates the property and passes the segments in their order: the witness is confirmed",
+        "found" =>
+            "values were found with which a run within the bound violates the property and passes the segments in their order",
         "correctness" =>
             "all obligations of the invariants hold, and the program can't violate the property: the witness is confirmed",
         "accepted" =>

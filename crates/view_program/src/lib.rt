@@ -9,4 +9,4 @@ mod refusals;
 mod sets;
 mod stages;
 
-pub use stages::explain;
+pub use stages::{Question, explain};

@@ -17,6 +17,13 @@ use wv_schema::{Content, Entry, Witness, witness_of};
 use wv_task::{judge_task, property};
 use wv_yaml::{Tree, read};
 
+/// What is asked about the files: the budgets, and of a violation sequence the values of a run where these are known.
+#[derive(Clone, Copy, Debug)]
+pub struct Question<'a> {
+    pub budgets: Budgets,
+    pub values: Option<&'a [i128]>,
+}
+
 /// More conflicts aren't spent.
 const MOST_CONFLICTS: u64 = 1_000_000;
 
@@ -52,23 +59,31 @@ fn holds_sets(witness: &Witness) -> bool {
 fn explain_program(
     alloc: Global,
     files: &Files<'_>,
-    budgets: Budgets,
+    question: Question<'_>,
     program: &Program,
     witness: &Witness,
     out: &mut Messages,
 ) -> Result<(), OutOfMemory> {
     if holds_sets(witness) {
-        let conflicts = limited(budgets.conflicts);
+        let conflicts = limited(question.budgets.conflicts);
         explain_sets(alloc, files, program, witness, conflicts, out)
     } else {
-        explain_sequence(alloc, files, program, witness, budgets.steps, out)
+        explain_sequence(
+            alloc,
+            files,
+            program,
+            witness,
+            question.budgets.steps,
+            question.values,
+            out,
+        )
     }
 }
 
 fn explain_source(
     alloc: Global,
     files: &Files<'_>,
-    budgets: Budgets,
+    question: Question<'_>,
     source: &Source,
     model: DataModel,
     property: Property,
@@ -76,7 +91,7 @@ fn explain_source(
     out: &mut Messages,
 ) -> Result<(), OutOfMemory> {
     match check(alloc, source, model, property) {
-        Ok(program) => explain_program(alloc, files, budgets, &program, witness, out),
+        Ok(program) => explain_program(alloc, files, question, &program, witness, out),
         Err(_) => explain_refused(alloc, files, model, property, out),
     }
 }
@@ -84,7 +99,7 @@ fn explain_source(
 fn explain_text(
     alloc: Global,
     files: &Files<'_>,
-    budgets: Budgets,
+    question: Question<'_>,
     model: DataModel,
     property: Property,
     witness: &Witness,
@@ -92,7 +107,7 @@ fn explain_text(
 ) -> Result<(), OutOfMemory> {
     match read_source(alloc, files.text(File::Program)) {
         Spelling::Source(source) => explain_source(
-            alloc, files, budgets, &source, model, property, witness, out,
+            alloc, files, question, &source, model, property, witness, out,
         ),
         Spelling::NoTokens(_) | Spelling::NoSource(_) => {
             explain_refused(alloc, files, model, property, out)
@@ -103,7 +118,7 @@ fn explain_text(
 fn explain_witness(
     alloc: Global,
     files: &Files<'_>,
-    budgets: Budgets,
+    question: Question<'_>,
     property: Property,
     witness: &Witness,
     out: &mut Messages,
@@ -112,7 +127,7 @@ fn explain_witness(
         return Ok(());
     }
     match judge_task(alloc, witness, files.text(File::Program), property) {
-        Ok(model) => explain_text(alloc, files, budgets, model, property, witness, out),
+        Ok(model) => explain_text(alloc, files, question, model, property, witness, out),
         Err(fault) => {
             let text = files.text(File::Witness);
             explain_task(alloc, text, witness, property, &fault, out)
@@ -123,7 +138,7 @@ fn explain_witness(
 fn explain_tree(
     alloc: Global,
     files: &Files<'_>,
-    budgets: Budgets,
+    question: Question<'_>,
     property: Property,
     tree: &Tree,
     out: &mut Messages,
@@ -131,7 +146,7 @@ fn explain_tree(
     match witness_of(alloc, tree) {
         Ok(witness) => {
             warn_of_unread(alloc, files.text(File::Witness), tree, out)?;
-            explain_witness(alloc, files, budgets, property, &witness, out)
+            explain_witness(alloc, files, question, property, &witness, out)
         }
         Err(fault) => explain_schema(alloc, files.text(File::Witness), tree, &fault, out),
     }
@@ -141,13 +156,13 @@ fn explain_tree(
 fn explain_bytes(
     alloc: Global,
     files: &Files<'_>,
-    budgets: Budgets,
+    question: Question<'_>,
     property: Property,
     out: &mut Messages,
 ) -> Result<(), OutOfMemory> {
     let text = files.text(File::Witness);
     match read(alloc, text) {
-        Ok(tree) => explain_tree(alloc, files, budgets, property, &tree, out),
+        Ok(tree) => explain_tree(alloc, files, question, property, &tree, out),
         Err(fault) => explain_yaml(alloc, text, fault, out),
     }
 }
@@ -156,11 +171,11 @@ fn explain_bytes(
 pub fn explain(
     alloc: Global,
     files: &Files<'_>,
-    budgets: Budgets,
+    question: Question<'_>,
     out: &mut Messages,
 ) -> Result<(), OutOfMemory> {
     match property(files.text(File::Property)) {
-        Ok(property) => explain_bytes(alloc, files, budgets, property, out),
+        Ok(property) => explain_bytes(alloc, files, question, property, out),
         Err(_) => {
             let spot = Spot { line: 1, column: 1 };
             let told = String::from_str(alloc, advice("property"))?;

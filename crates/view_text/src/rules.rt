@@ -19,7 +19,8 @@ pub fn advice(code: &str) -> &'static str {
         "schema-shape" =>
             "a segment is waypoints to avoid and then one to follow; the target is the waypoint to follow of the last segment, and stands nowhere else",
         "schema-entries" => "a witness is one violation sequence, or invariant sets alone",
-        "kind" => "certificates are of invariant sets, and this witness is a violation sequence",
+        "kind" =>
+            "certificates are of invariant sets, and values are sought for violation sequences: this witness is of the other kind",
         "files" => "an entry names one input file, and one hash, whose key is that file's name",
         "hash" => "the witness was made for a program of other bytes",
         "specification" =>
@@ -46,7 +47,7 @@ pub fn advice(code: &str) -> &'static str {
         "check-cells" => "with this declaration all objects have more than 100,000 cells",
         "recursion" =>
             "this function calls itself, maybe through others, and main reaches it: invariants are judged only of programs without recursion",
-        "weight" => "the obligations are too big as circuits",
+        "weight" => "the obligations, or the runs within the bound, are too big as circuits",
         "unknown-key" => "this key isn't read: the format doesn't have it in this map",
         "file-name" => "a location is in the file that the witness is about",
         "ended" => "the run that the witness gives ends without a violation of the property",
@@ -54,6 +55,7 @@ pub fn advice(code: &str) -> &'static str {
             "the run that the witness gives comes to undefined behaviour before it violates the property",
         "unmatched" =>
             "the run that the witness gives violates the property, but doesn't pass its segments in their order",
+        "none" => "no values make a run within the bound as the witness says",
         "undecided" => "a budget is spent: larger ones (--steps, --conflicts) may decide",
         "obligation" => "an obligation of the invariants fails, with the values that are shown",
         _ => "this release doesn't judge this form",

@@ -11,15 +11,8 @@ use std::alloc::Global;
 use std::process::ExitCode;
 use view_inputs::{Asked, read_words_at};
 use view_judging::{Handed, Judging, Output, hand_out, shown, usage_reply};
-use wv_arguments::Budgets;
 use wv_base::{OutOfMemory, write_all};
 use wv_process::{FileShelf, OutSink, words_of};
-
-/// Checking a certificate again spends none of it.
-const LEAST: Budgets = Budgets {
-    steps: 1,
-    conflicts: 1,
-};
 
 /// Writes all bytes to standard output; the status that the program ends with.
 fn written(rt: &HostRuntime, bytes: &[u8], status: u8) -> u8 {
@@ -66,20 +59,11 @@ fn answered(rt: &HostRuntime, alloc: Global, asked: &Asked<'_>) -> u8 {
     match asked {
         Asked::Judge {
             names,
-            budgets,
+            asking,
             form,
         } => {
             let shelf = FileShelf::new(rt, alloc);
-            judged(rt, shown(alloc, names, None, *budgets, *form, shelf))
-        }
-        Asked::Recheck {
-            names,
-            certificate,
-            form,
-        } => {
-            let shelf = FileShelf::new(rt, alloc);
-            let certificate = Some(*certificate);
-            judged(rt, shown(alloc, names, certificate, LEAST, *form, shelf))
+            judged(rt, shown(alloc, names, *asking, *form, shelf))
         }
         Asked::Export {
             names,
