@@ -1914,7 +1914,7 @@ loops::last_test-returns-in-Do t c =
     let n = c.args.depth in
     let gives = c.args.gives in
     let e = ap (λ f. loop_of (form_view f)) c.in-Do.is in
-    subst (λ l. LastDoes p W n gives c.args.at l c.args.sym.now c.args.sym.now) (sym e) (do_last p W n gives c.args.at (expr_view c.in-Do.test) (stmt_view c.in-Do.body.value) c.requires.ready.fits)
+    do_last p W n gives c.args.at e c.requires.ready.fits
 
 pub loops::last_test-returns-in_default : goal.loops::last_test-returns-in_default
 loops::last_test-returns-in_default t c =
