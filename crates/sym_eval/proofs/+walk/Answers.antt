@@ -50,7 +50,7 @@ use Rattle.circuits.specs.Numbers.{typed, AreIn}
 use Rattle.sym_choices.specs.Cases.{AreCases, cases_cost}
 use Rattle.sym_eval.specs.Switching.{ArmsDo, ArmReady, ArmDoes, ArmsReady}
 use Rattle.std.specs.List.{list_all}
-use Rattle.sym_eval.proofs.Switchable.{labels_many, chosen_by_ready, chosen_by_in, chosen_by_room, promoted_as, cases_room, told_room, entries_room, cases_many, cases_then, cases_still, chosen_chooses, arm_room, arm_starts, arm_still, arm_room_again, arm_last_in, arm_last_room, arm_does, arms_none, arms_part, arms_next, arms_on, switch_chooses, arms_start, switch_kept_in, switch_room, switch_does}
+use Rattle.sym_eval.proofs.Switchable.{labels_many, chosen_by_ready, chosen_by_in, chosen_by_room, promoted_as, cases_room, told_room as choice_told_room, entries_room, cases_many, cases_then, cases_still, chosen_chooses, arm_room, arm_starts, arm_still, arm_room_again, arm_last_in, arm_last_room, arm_does, arms_none, arms_part, arms_next, arms_on, switch_chooses, arms_start, switch_kept_in, switch_room, switch_does}
 use Rattle.c_core.specs.declared.number.IntType.TheVariants.{Bool as BoolType}
 use Rattle.c_core.specs.Types.{width_of}
 use Rattle.c_meaning.specs.Placing.{placed_view}
@@ -2392,7 +2392,7 @@ switches::chosen-tell_choice-requires-clause-room t c =
     let y = promoted_as p W c.args.depth c.args.at e ls c.requires.ready c.in_ok-x.ensures c.type_of-from.result c.promote-ty.result c.type_of-from.ensures c.promote-ty.ensures c.in_ok-y.ensures in
     let z = subst (λ k. AreCases p k c.in_ok-y.y.bits ls c.convert.new.sym c.case_bits.new.sym c.in_ok-cases.cases.items) kind c.in_ok-cases.ensures in
     let many = ap length c.deref.ensures.value ∙ cases_many p W c.args.depth c.args.at e ls c.requires.ready c.in_ok-x.ensures y z in
-    told_room p W c.args.depth c.args.at e ls c.requires.ready c.in_ok-x.ensures y z (length c.deref.result.now) many
+    choice_told_room p W c.args.depth c.args.at e ls c.requires.ready c.in_ok-x.ensures y z (length c.deref.result.now) many
 
 pub switches::chosen-enter_arms-requires-clause-fits : goal.switches::chosen-enter_arms-requires-clause-fits
 switches::chosen-enter_arms-requires-clause-fits t c =
