@@ -1,5 +1,5 @@
 -- What each mode does of an event, as the one mode of a walk.
-use Rattle.std.proofs.Common.{◌≡◌, ℕ, suc, ◌+◌, ◌*◌, ◌≤◌, ◌<◌, ◌^◌, Bool, true, false, not, ℤ, List, length, map, refl, sym, ◌∙◌, ap, subst, arith, Option, Some, None}
+use Rattle.std.proofs.Common.{◌≡◌, ℕ, suc, ◌+◌, ◌≤◌, ◌<◌, ◌^◌, Bool, true, false, not, ℤ, List, length, map, refl, sym, ◌∙◌, ap, subst, arith, Option, Some, None}
 use Rattle.std.specs.List.{All, list_any}
 use Rattle.c_core.specs.Tree.{Program}
 use Rattle.c_core.specs.Typing.{labels_in}
@@ -121,8 +121,8 @@ module _ (w : Walk) (mode : Seeking) (q : w.mode ≡ Seeks mode) where
   pub seeks_duty : (at : Around) → at.duty ≡ 0 → IsDutyAt (program_of w) (mode_of w) at
   seeks_duty at e = subst (λ m. IsDutyAt (program_of w) (mode_by w m) at) (sym q) (ap suc (sym e))
 
-  pub seeks_counts : (at : Around) (call : Option Spot) {a : Sym} {b : Bit} → Counts (program_of w) (segments_of mode) at.statement at.full call a b → CountsWhere (program_of w) (mode_of w) at call a b
-  seeks_counts at call {a} {b} x =
+  pub seeks_counts : (at : Around) (call : Option Spot) (a : Sym) (b : Bit) → Counts (program_of w) (segments_of mode) at.statement at.full call a b → CountsWhere (program_of w) (mode_of w) at call a b
+  seeks_counts at call a b x =
       subst (λ m. CountsWhere (program_of w) (mode_by w m) at call a b) (sym q)
       (x (seeking_mode (program_of w) (segments_of mode) mode.turns) (follows (program_of w) (segments_of mode) mode.turns))
 

@@ -3,6 +3,7 @@ ghost use Rattle.std.specs.Prelude.{◌≡◌, ◌<◌, ◌^◌, length, true};
 ghost use Rattle.c_core.specs.View.{program_view};
 ghost use Rattle.way_bind.specs.Binding.{Binds, segments_of, waypoints_in};
 
+use c_core::Program;
 use std::alloc::Global;
 use way_bind::{BindFault, Lookup, bind_over};
 use way_match::Bound;
@@ -48,4 +49,16 @@ pub fn bind(alloc: Global, witness: &Witness, lookup: &Lookup) -> Result<Bound, 
         return Err(BindFault::OutOfMemory);
     }
     bind_over(alloc, witness, lookup)
+}
+
+/// The same for a program that isn't indexed yet.
+pub fn bind_alone(
+    alloc: Global,
+    witness: &Witness,
+    program: &Program,
+) -> Result<Bound, BindFault>
+    ensures { Binds (program_view program.now) witness.now result }
+{
+    let lookup = Lookup::new(alloc, program)?;
+    bind(alloc, witness, &lookup)
 }

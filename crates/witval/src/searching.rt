@@ -6,7 +6,7 @@ ghost use Rattle.seek_passes.specs.Passing.{IsSegment};
 ghost use Rattle.way_match.specs.View.{segments_view};
 ghost use Rattle.witval.specs.Searching.{SeeksOnSegments, SeeksValues, TellsSought};
 
-use crate::binding::bind;
+use crate::binding::bind_alone;
 use crate::output::{Output, Searched};
 use crate::refusal::{refuse_bind, refuse_search};
 use c_core::Program;
@@ -32,7 +32,7 @@ pub fn seek_values(
     ensures { IfOk result (SeeksValues turns conflicts witness.now program.now) }
 {
     bound_segments_can_be_followed();
-    match bind(alloc, witness, program) {
+    match bind_alone(alloc, witness, program) {
         Ok(bound) => seek_bound(alloc, program, &bound, turns, conflicts),
         Err(fault) => Ok(Output::Report(refuse_bind(alloc, fault)?)),
     }
