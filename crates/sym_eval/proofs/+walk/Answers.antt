@@ -540,8 +540,8 @@ pub expressions::call-end-requires-clause-room : goal.expressions::call-end-requ
 expressions::call-end-requires-clause-room t c =
     omega (arith, (longer_by c.in_ok-tell_enter-in-Abort.ensures.added).1, c.requires.ready.room)
 
-pub expressions::call-returns-in_ok-r-in-Input : goal.expressions::call-returns-in_ok-r-in-Input
-expressions::call-returns-in_ok-r-in-Input t c =
+pub expressions::call-returns-in_ok-tell_value-in-Input : goal.expressions::call-returns-in_ok-tell_value-in-Input
+expressions::call-returns-in_ok-tell_value-in-Input t c =
     subst (λ k. Values (program_of c.args.walk.now) (mode_of c.args.walk.now) c.args.depth c.args.at (use_of c.args.used) (Expr c.args.e.now.spot c.args.e.now.ty (Call k (exprs_view c.args.args.now) c.args.close)) c.args.sym.now c.tell_value.new.sym c.in_ok-r-in-Input.r.bits) (sym c.in-Input.is)
     (wanted (program_of c.args.walk.now) (mode_of c.args.walk.now) c.args.depth c.args.at (use_of c.args.used) (Expr c.args.e.now.spot c.args.e.now.ty (Call (Input c.in-Input.of) (exprs_view c.args.args.now) c.args.close)) (λ v l. refl) (input_values (program_of c.args.walk.now) (mode_of c.args.walk.now) c.args.depth c.args.at ((mode_of c.args.walk.now).scale.enters c.args.close) ((mode_of c.args.walk.now).scale.returns c.args.close) c.args.e.now.spot c.args.close c.args.e.now.ty c.in-Input.of (exprs_view c.args.args.now) (subst (λ k. Ready (program_of c.args.walk.now) (mode_of c.args.walk.now) c.args.depth c.args.at c.args.sym.now (Expr c.args.e.now.spot c.args.e.now.ty (Call k (exprs_view c.args.args.now) c.args.close))) c.in-Input.is c.requires.ready) c.in_ok-tell_enter-in-Input.ensures (c.in_ok-r-in-Input.ensures (mode_of c.args.walk.now))
     c.in_ok-tell_value-in-Input.ensures (omega arith) (omega arith)))
