@@ -1,5 +1,5 @@
 -- Full expressions, and what a loop does by its controlling expression.
-use Rattle.std.proofs.Common.{◌≡◌, ℕ, ◌+◌, ◌≤◌, Bool, true, false, cond, not, ◌&&◌, ◌||◌, ℤ, List, [], length, refl, sym, ◌∙◌, ap, ap₂, subst, arith, append-nil, Option, Some, None, IsTrue}
+use Rattle.std.proofs.Common.{◌≡◌, ℕ, ◌+◌, ◌≤◌, ◌<◌, ◌^◌, Bool, true, false, cond, not, ◌&&◌, ◌||◌, ℤ, List, [], length, refl, sym, ◌∙◌, ap, ap₂, subst, arith, append-nil, Option, Some, None, IsTrue}
 use Rattle.c_core.specs.Tree.{Program, Exp, Expr}
 use Rattle.c_core.specs.Types.{width_of, is_zero}
 use Rattle.c_core.specs.Parts.{type_of as type_if, spot_of}

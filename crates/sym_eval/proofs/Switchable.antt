@@ -189,7 +189,7 @@ module _ (p : Program) (W : Mode) (n : ℕ) where
           pub cases_many : length cs ≡ length ls
           cases_many = let v : ℕ → Bool = λ k. false in sym (length-map cs (holds v c.net)) ∙ ap length (z.are v) ∙ length-map ls _
 
-          done_many : {m : ℕ} {f : (ℕ → Bool) → ℤ} {d : Sym} {bits : List Bit} (v : ℕ → Bool) → Entered p m ls f c d bits → length bits ≡ length ls
+          done_many : {m : ℕ} {f : (ℕ → Bool) → ℤ} {o d : Sym} {bits : List Bit} (v : ℕ → Bool) → Entered p m ls f o d bits → length bits ≡ length ls
           done_many {f = f} {d = d} {bits = bits} v w = sym (length-map bits (holds v d.net)) ∙ ap length (w.are v) ∙ done_length (arm_for (f v) ls) ls
 
           -- the event is told before the arms are entered

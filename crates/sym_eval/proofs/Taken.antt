@@ -1,5 +1,5 @@
 -- The turns of a loop, one after another, up to a bound.
-use Rattle.std.proofs.Common.{◌≡◌, ℕ, zero, suc, ◌+◌, ◌*◌, ◌≤◌, ◌<◌, ◌^◌, true, false, ◌&&◌, List, length, refl, sym, ◌∙◌, ap, ap₂, arith, Option, Some, None, IsTrue, is_some}
+use Rattle.std.proofs.Common.{◌≡◌, ℕ, zero, suc, ◌+◌, ◌*◌, ◌≤◌, ◌<◌, ◌^◌, true, false, ◌&&◌, List, length, refl, sym, ◌∙◌, ap, ap₂, subst, arith, Option, Some, None, IsTrue, is_some}
 use Rattle.c_core.specs.Tree.{Program, Exp, Stm}
 use Rattle.c_core.specs.Parts.{every_statement}
 use Rattle.c_core.specs.Typing.{is_typed, has_value, statement_fits}
@@ -83,8 +83,8 @@ module _ (p : Program) (W : Mode) (n : ℕ) (gives : Option IntType) (at : Spot)
   pub for_last : {a : Sym} {e s : Option Exp} {x : Stm} → TurnsReady p W n gives 0 at a (Some (ForLoop e s x)) → TestIfReady p W n at a e
   for_last {e = e} {s = s} {x = x} h = record { fits = h.fits; types = (both (is_test p e) (is_typed_if p s && every_statement (statement_fits p gives) x) h.types).0; room = omega (arith, h.room) }
 
-  pub do_last : {a : Sym} {e : Exp} {x : Stm} → IsState p a → LastDoes p W n gives at (Some (DoLoop x e)) a a
-  do_last {a} h = runs_as p W.duties gives (skip_runs p W.duties gives a h) (λ v s. refl) (omega arith) (omega arith)
+  pub do_last : {a : Sym} {l : Option Loop} {x : Stm} {e : Exp} → l ≡ Some (DoLoop x e) → IsState p a → LastDoes p W n gives at l a a
+  do_last {a} q h = subst (λ l. LastDoes p W n gives at l a a) (sym q) (runs_as p W.duties gives (skip_runs p W.duties gives a h) (λ v s. refl) (omega arith) (omega arith))
 
   pub none_last : {a : Sym} → IsState p a → LastDoes p W n gives at None a a
   none_last {a} h = runs_as p W.duties gives (skip_runs p W.duties gives a h) (λ v s. refl) (omega arith) (omega arith)

@@ -50,7 +50,7 @@ use Rattle.circuits.specs.Numbers.{typed, AreIn}
 use Rattle.sym_choices.specs.Cases.{AreCases, cases_cost}
 use Rattle.sym_eval.specs.Switching.{ArmsDo, ArmReady, ArmDoes, ArmsReady}
 use Rattle.std.specs.List.{list_all}
-use Rattle.sym_eval.proofs.Switchable.{labels_many, chosen_by_ready, chosen_by_in, chosen_by_room, promoted_as, cases_room, told_room, entries_room, cases_many, cases_then, cases_still, chosen_chooses, arm_room, arm_starts, arm_still, arm_room_again, arm_last_in, arm_last_room, arm_does, arms_none, arms_part, arms_next, arms_on, switch_chooses, arms_start, switch_kept_in, switch_room, switch_does}
+use Rattle.sym_eval.proofs.Switchable.{labels_many, chosen_by_ready, chosen_by_in, chosen_by_room, promoted_as, cases_room, told_room as choice_told_room, entries_room, cases_many, cases_then, cases_still, chosen_chooses, arm_room, arm_starts, arm_still, arm_room_again, arm_last_in, arm_last_room, arm_does, arms_none, arms_part, arms_next, arms_on, switch_chooses, arms_start, switch_kept_in, switch_room, switch_does}
 use Rattle.c_core.specs.declared.number.IntType.TheVariants.{Bool as BoolType}
 use Rattle.c_core.specs.Types.{width_of}
 use Rattle.c_meaning.specs.Placing.{placed_view}
@@ -540,8 +540,8 @@ pub expressions::call-end-requires-clause-room : goal.expressions::call-end-requ
 expressions::call-end-requires-clause-room t c =
     omega (arith, (longer_by c.in_ok-tell_enter-in-Abort.ensures.added).1, c.requires.ready.room)
 
-pub expressions::call-returns-in_ok-r-in-Input : goal.expressions::call-returns-in_ok-r-in-Input
-expressions::call-returns-in_ok-r-in-Input t c =
+pub expressions::call-returns-in_ok-tell_value-in-Input : goal.expressions::call-returns-in_ok-tell_value-in-Input
+expressions::call-returns-in_ok-tell_value-in-Input t c =
     subst (λ k. Values (program_of c.args.walk.now) (mode_of c.args.walk.now) c.args.depth c.args.at (use_of c.args.used) (Expr c.args.e.now.spot c.args.e.now.ty (Call k (exprs_view c.args.args.now) c.args.close)) c.args.sym.now c.tell_value.new.sym c.in_ok-r-in-Input.r.bits) (sym c.in-Input.is)
     (wanted (program_of c.args.walk.now) (mode_of c.args.walk.now) c.args.depth c.args.at (use_of c.args.used) (Expr c.args.e.now.spot c.args.e.now.ty (Call (Input c.in-Input.of) (exprs_view c.args.args.now) c.args.close)) (λ v l. refl) (input_values (program_of c.args.walk.now) (mode_of c.args.walk.now) c.args.depth c.args.at ((mode_of c.args.walk.now).scale.enters c.args.close) ((mode_of c.args.walk.now).scale.returns c.args.close) c.args.e.now.spot c.args.close c.args.e.now.ty c.in-Input.of (exprs_view c.args.args.now) (subst (λ k. Ready (program_of c.args.walk.now) (mode_of c.args.walk.now) c.args.depth c.args.at c.args.sym.now (Expr c.args.e.now.spot c.args.e.now.ty (Call k (exprs_view c.args.args.now) c.args.close))) c.in-Input.is c.requires.ready) c.in_ok-tell_enter-in-Input.ensures (c.in_ok-r-in-Input.ensures (mode_of c.args.walk.now))
     c.in_ok-tell_value-in-Input.ensures (omega arith) (omega arith)))
@@ -1914,7 +1914,7 @@ loops::last_test-returns-in-Do t c =
     let n = c.args.depth in
     let gives = c.args.gives in
     let e = ap (λ f. loop_of (form_view f)) c.in-Do.is in
-    subst (λ l. LastDoes p W n gives c.args.at l c.args.sym.now c.args.sym.now) (sym e) (do_last p W n gives c.args.at c.requires.ready.fits)
+    do_last p W n gives c.args.at e c.requires.ready.fits
 
 pub loops::last_test-returns-in_default : goal.loops::last_test-returns-in_default
 loops::last_test-returns-in_default t c =
@@ -2392,7 +2392,7 @@ switches::chosen-tell_choice-requires-clause-room t c =
     let y = promoted_as p W c.args.depth c.args.at e ls c.requires.ready c.in_ok-x.ensures c.type_of-from.result c.promote-ty.result c.type_of-from.ensures c.promote-ty.ensures c.in_ok-y.ensures in
     let z = subst (λ k. AreCases p k c.in_ok-y.y.bits ls c.convert.new.sym c.case_bits.new.sym c.in_ok-cases.cases.items) kind c.in_ok-cases.ensures in
     let many = ap length c.deref.ensures.value ∙ cases_many p W c.args.depth c.args.at e ls c.requires.ready c.in_ok-x.ensures y z in
-    told_room p W c.args.depth c.args.at e ls c.requires.ready c.in_ok-x.ensures y z (length c.deref.result.now) many
+    choice_told_room p W c.args.depth c.args.at e ls c.requires.ready c.in_ok-x.ensures y z (length c.deref.result.now) many
 
 pub switches::chosen-enter_arms-requires-clause-fits : goal.switches::chosen-enter_arms-requires-clause-fits
 switches::chosen-enter_arms-requires-clause-fits t c =
