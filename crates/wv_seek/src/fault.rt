@@ -1,9 +1,10 @@
-// Why no values are sought.
+// The faults of a search.
 use wv_base::OutOfMemory;
 
-/// The runs within the bound weigh more than 2,000,000; no net was made.
+/// Why no values are sought.
 #[derive(Drop)]
 pub enum SeekFault {
+    /// The runs within the bound weigh more than 2,000,000; no net was made.
     TooBig,
     OutOfMemory,
 }
