@@ -2060,11 +2060,11 @@ loops::all_turns-returns t c =
 -- ---- a loop, as its mode does it
 pub loops::loop_scope-one_turn-requires : goal.loops::loop_scope-one_turn-requires
 loops::loop_scope-one_turn-requires t c =
-    (omega (arith, c.decreases), (c.requires.walk, c.in-Obliges.is, c.requires.ready))
+    (omega (arith, c.decreases), (c.requires.walk, (c.in-Obliges.is, c.requires.ready)))
 
 pub loops::loop_scope-all_turns-requires : goal.loops::loop_scope-all_turns-requires
 loops::loop_scope-all_turns-requires t c =
-    (omega (arith, c.decreases), (c.requires.walk, c.in-Seeks.is, c.requires.ready))
+    (omega (arith, c.decreases), (c.requires.walk, (c.in-Seeks.is, c.requires.ready)))
 
 pub loops::for_scope-first-requires : goal.loops::for_scope-first-requires
 loops::for_scope-first-requires t c =
