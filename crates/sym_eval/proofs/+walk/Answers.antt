@@ -61,7 +61,7 @@ use Rattle.sym_state.proofs.Telling.{told_as}
 use Rattle.sym_state.specs.Standing.{Turned}
 use Rattle.sym_state.specs.Telling.{telling}
 use Rattle.sym_walk.specs.Walking.{segments_of, mode_by, IsJudging}
-use Rattle.sym_walk.specs.declared.walk.Judging.TheVariants.{Obliges, Seeks}
+use Rattle.sym_walk.specs.declared.walk.Judging.TheVariants.{Obliges}
 use Rattle.sym_weight.specs.Table.{params_of}
 use Rattle.sym_eval.proofs.Taken.{turn_first, turns_next, turns_more, last_test_room, turns_end, while_last, for_last, do_last, none_last, all_ready, all_room, turns_within, all_done}
 use Rattle.sym_eval.proofs.+walk.Goals as goal

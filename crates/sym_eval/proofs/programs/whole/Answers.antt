@@ -1,4 +1,4 @@
-use Rattle.std.proofs.Common.{rules, ◌∙◌, refl, sym, ap, subst, arith}
+use Rattle.std.proofs.Common.{rules, refl, ap, subst, arith}
 use Rattle.std.specs.Prelude.{length}
 use Rattle.c_core.specs.View.{program_view, form_view}
 use Rattle.sym_flow.specs.Calling.{Enters}
