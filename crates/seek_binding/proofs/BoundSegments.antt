@@ -46,13 +46,13 @@ compared s o e = absurd (cc)
 -- ---- one waypoint
 
 -- what was bound, if anything was
-point_of : Point → Result Point Unbound → Point
+abbrev point_of : Point → Result Point Unbound → Point
 point_of d (Ok x) = x
 point_of d (Err lack) = d
 
 module _ (p : Program) where
-  as_bound : (x y : Point) → IsPoint p y → Ok x ≡ Ok y → IsPoint p x
-  as_bound x y h e = subst (IsPoint p) (sym (ap (point_of x) e)) h
+  as_bound : (x : Point) (answer : Result Point Unbound) → IsPoint p (point_of x answer) → Ok x ≡ answer → IsPoint p x
+  as_bound x answer h e = subst (IsPoint p) (sym (ap (point_of x) e)) h
 
   assumed : (text : List ℕ) (spot : Spot) (x : Point) → BindsAssumption p text spot (Ok x) → IsPoint p x
   assumed text spot x h =
@@ -66,18 +66,18 @@ module _ (p : Program) where
       subst (IsPoint p) (sym h.2) compares
 
   returned : (v : Option Constraint) (close : Spot) (x : Point) → BindsReturn p v close (Ok x) → IsPoint p x
-  returned None close x h = as_bound x (Return close None) tt h
+  returned None close x h = as_bound x (Ok (Return close None)) tt h
   returned (Some v) close x h = tested v.value close x h
 
   entered : (close : Spot) (x : Point) → BindsEntry close (Ok x) → IsPoint p x
-  entered close x h = as_bound x (Enter close) tt h
+  entered close x h = as_bound x (Ok (Enter close)) tt h
 
   branched : (spot : Spot) (way : Option Way) (x : Point) → Ok x ≡ branching_by spot way → IsPoint p x
   branched spot None x h = absurd (cc)
-  branched spot (Some way) x h = as_bound x (Branch spot way) tt h
+  branched spot (Some way) x h = as_bound x (Ok (Branch spot way)) tt h
 
   aimed : (aim : Aim) (suits : Bool) (lack : Unbound) (x : Point) → Ok x ≡ cond suits (Ok (Target aim)) (Err lack) → IsPoint p x
-  aimed aim true lack x h = as_bound x (Target aim) tt h
+  aimed aim true lack x h = as_bound x (Ok (Target aim)) tt h
   aimed aim false lack x h = absurd (cc)
 
   placed : (spot : Option Spot) (binds : Spot → Result Point Unbound → Type 0) (x : Point) → ((at : Spot) → binds at (Ok x) → IsPoint p x) → WherePlaced spot binds (Ok x) → IsPoint p x

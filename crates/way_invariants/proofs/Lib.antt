@@ -4,5 +4,5 @@ mod PlacedLaws
 mod AnswerLaws
 mod TokenConstants
 mod SpelledConstants
-mod TypedTests
+pub mod TypedTests
 mod TestLaws
