@@ -313,7 +313,7 @@ fn is_of_one_witness(matches: &ArgMatches<'_>) -> bool {
 }
 
 /// How far values are sought.
-fn search(matches: &ArgMatches<'_>, budgets: Budgets) -> Search {
+fn search_of(matches: &ArgMatches<'_>, budgets: Budgets) -> Search {
     Search {
         bound: matches.get_one::<u64>("bound").unwrap_or(8),
         conflicts: budgets.conflicts,
@@ -340,7 +340,7 @@ fn asked_of<'a>(
             }
             None => Asking::Recheck(certificate),
         },
-        None if seeks => Asking::Seek(search(matches, budgets)),
+        None if seeks => Asking::Seek(search_of(matches, budgets)),
         None => Asking::Judge(budgets),
     };
     Asked::Judge {
