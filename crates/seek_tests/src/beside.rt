@@ -1,5 +1,5 @@
 // All runs within a bound beside runs that are made.
-use crate::cases::{Case, Unrolled, unrolled};
+use crate::cases::{Case, Unrolled, unroll_case};
 use crate::told::{Told, told_by_net};
 use crate::{branches, calls, loops};
 use c_meaning::{Choices, Draw};
@@ -16,7 +16,7 @@ const STEPS: u64 = 100000;
 
 // How many lists of values are sought within a bound, and under how many inputs net and run differ.
 #[derive(Clone, Copy)]
-struct Count {
+struct Counted {
     sought: u64,
     differing: u64,
 }
@@ -59,8 +59,8 @@ fn is_alike(told: &Told, watched: &Watched, is_whole: bool) -> bool {
 }
 
 // All inputs of a net are tried, where there are few; more count as a difference.
-fn count(alloc: Global, case: &Unrolled, is_whole: bool) -> Result<Count, OutOfMemory> {
-    let mut count = Count {
+fn count(alloc: Global, case: &Unrolled, is_whole: bool) -> Result<Counted, OutOfMemory> {
+    let mut count = Counted {
         sought: 0,
         differing: 0,
     };
@@ -95,7 +95,7 @@ fn compare(alloc: Global, case: &Case) -> Result<Compared, Fail> {
     for sought in case.sought {
         turns = turns.saturating_add(1);
         let is_whole = turns as usize == case.sought.len();
-        let within = unrolled(alloc, case, turns).ok_or(case.name)?;
+        let within = unroll_case(alloc, case, turns).ok_or(case.name)?;
         let count = count(alloc, &within, is_whole)?;
         all.differing = all.differing.saturating_add(count.differing);
         if count.sought != *sought {

@@ -67,7 +67,7 @@ fn bound(alloc: Global, program: &Program, parts: &[Part]) -> Option<Bound>
 }
 
 /// All runs of a case within a bound, where nothing is refused.
-pub fn unrolled(alloc: Global, case: &Case, turns: u32) -> Option<Unrolled> {
+pub fn unroll_case(alloc: Global, case: &Case, turns: u32) -> Option<Unrolled> {
     if turns > MOST_TURNS {
         return None;
     }
