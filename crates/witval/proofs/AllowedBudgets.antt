@@ -74,7 +74,7 @@ searched : (c : Option Command) (k n : Option ℕ) → IfSome k (IsWithin 1 most
 searched None k n g h = tt
 searched (Some c) None n g h = tt
 searched (Some c) (Some k) None g h = tt
-searched (Some c) (Some k) (Some n) g h = record { turns = g.1; some = h.0; bounded = h.1 }
+searched (Some c) (Some k) (Some n) g h = record { within = g.1; some = h.0; bounded = h.1 }
 
 either : (b : Bool) (x y : Option Wanted) → AreAllowed x → AreAllowed y → AreAllowed (if b then x else y)
 either true x y h k = h

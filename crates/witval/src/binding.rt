@@ -52,11 +52,7 @@ pub fn bind(alloc: Global, witness: &Witness, lookup: &Lookup) -> Result<Bound, 
 }
 
 /// The same for a program that isn't indexed yet.
-pub fn bind_alone(
-    alloc: Global,
-    witness: &Witness,
-    program: &Program,
-) -> Result<Bound, BindFault>
+pub fn bind_alone(alloc: Global, witness: &Witness, program: &Program) -> Result<Bound, BindFault>
     ensures { Binds (program_view program.now) witness.now result }
 {
     let lookup = Lookup::new(alloc, program)?;

@@ -16,7 +16,7 @@ pub record IsAllowed (budgets : Budgets) : Type 0 where
 
 -- the bound on turns and calls and the budget of conflicts of a search are within their ranges
 pub record IsSearch (turns conflicts : ℕ) : Type 0 where
-  pub turns : turns ≤ most_turns
+  pub within : turns ≤ most_turns
   pub some : 1 ≤ conflicts
   pub bounded : conflicts ≤ most_conflicts
 
