@@ -10,7 +10,7 @@ returns-in-Ok-clause-right g c =
     let inputs = c.in-Ok.inputs in
     let right =
     subst (λ n. IfOk c.judge.result (RightOnInputs (Seeking n c.args.conflicts) inputs.program.items inputs.property.items inputs.witness.items))
-    c.turns_of.ensures c.judge.ensures in
+    c.turns_of-turns.ensures c.judge.ensures in
     (seek_if (named c.args.names.now) c.args.turns c.args.conflicts _ _ inputs _ c.in-Ok.ensures.within c.in-Ok.ensures.inputs right).0
 
 pub returns-in-Ok-clause-integers : goal.returns-in-Ok-clause-integers
@@ -18,7 +18,7 @@ returns-in-Ok-clause-integers g c =
     let inputs = c.in-Ok.inputs in
     let right =
     subst (λ n. IfOk c.judge.result (RightOnInputs (Seeking n c.args.conflicts) inputs.program.items inputs.property.items inputs.witness.items))
-    c.turns_of.ensures c.judge.ensures in
+    c.turns_of-turns.ensures c.judge.ensures in
     let state = g.S.Shelf.state c.args.shelf.now in
     (seek_if (named c.args.names.now) c.args.turns c.args.conflicts state state inputs _ c.in-Ok.ensures.within c.in-Ok.ensures.inputs right).1
 
