@@ -30,5 +30,4 @@ example_judged_runs = record {
   one_duty = λ p ss k. refl;
   its_number = λ p ss k at. refl;
   at_no_line = λ line column kind i. ap (λ t. (t && nat_eq 0 column) && (nat_eq (kind_rank Property) (kind_rank kind) && same_number None i)) (eqb-zero-suc line);
-  none_placed = λ p ss k. refl;
 }

@@ -56,5 +56,3 @@ pub record ExampleJudgedRuns : Type 0 where
   pub its_number : (p : Program) (ss : List BoundSegment) (k : ℕ) (at : Where) → number_among ((seeking_mode p ss k).duty_at at) (seeking_mode p ss k).duties ≡ 1
   -- it is no obligation at a line of a text
   pub at_no_line : (line column : ℕ) (kind : DutyKind) (i : Option ℕ) → same_duty the_hit (duty (at (suc line) column) kind i) ≡ false
-  -- no invariants
-  pub none_placed : (p : Program) (ss : List BoundSegment) (k : ℕ) → length (seeking_mode p ss k).placed ≡ 0
