@@ -1,12 +1,29 @@
-ghost use Rattle.std.specs.Prelude.{◌≡◌, IsOk, OnOk, OnErr};
+ghost use Rattle.std.specs.Prelude.{◌≡◌, true, false, List, Some, IsOk, OnOk, OnErr};
+ghost use Rattle.c_meaning.specs.Watching.{event_spot};
 
 use crate::memory::Memory;
 use crate::run::Event;
+use c_core::Spot;
 use wv_base::OutOfMemory;
+
+/// The place of an event; a failure has none of its own.
+#[inline(always)]
+pub fn event_spot(event: &Event) -> Option<Spot>
+    ensures { result ≡ event_spot event.now }
+{
+    match event {
+        Event::At(spot) => Some(*spot),
+        Event::Branch(spot, _) => Some(*spot),
+        Event::Enter(close) => Some(*close),
+        Event::Return(close, _) => Some(*close),
+        Event::Fail { .. } => None,
+    }
+}
 
 /// Whoever sees the events of a run.
 pub trait Watcher {
     ghost use Rattle.std.specs.Prelude.{List};
+    ghost use Rattle.c_core.specs.declared.number.Spot.{Spot};
     ghost use Rattle.c_meaning.specs.Cells.{Cell};
     ghost use Rattle.c_meaning.specs.declared.run.Event.{Event};
 
@@ -26,4 +43,11 @@ pub trait Watcher {
         ensures ok { OnOk result (seen self.new ≡ after event memory.now.cells (seen self.old)) }
         ensures refused { OnErr result (seen self.new ≡ seen self.old) }
         ensures succeeds { sure → IsOk result };
+
+    /// Takes an event of which nothing but its place matters, and not even the live cells; `false` where more may
+    /// matter, and then nothing has changed.
+    fn skips(&mut self, spot: Spot) -> bool
+        ensures taken { result ≡ true → (event : Event) (cells : List Cell) → event_spot event ≡ Some spot
+            → seen self.new ≡ after event cells (seen self.old) }
+        ensures kept { result ≡ false → seen self.new ≡ seen self.old };
 }

@@ -1,5 +1,5 @@
 // Where a machine stands, and the state of its run.
-ghost use Rattle.std.specs.Prelude.{◌≡◌, ◌≤◌, ◌<◌, ◌+◌, ◌^◌, ◌∷◌, reverse, vec_len, vec_capacity, OnOk, IsOkUnless};
+ghost use Rattle.std.specs.Prelude.{◌≡◌, ◌≤◌, ◌<◌, ◌+◌, ◌^◌, ◌∷◌, reverse, vec_len, vec_capacity, IsOk, OnOk, OnErr, IsOkUnless};
 ghost use Rattle.c_core.specs.Tree.{Program as Tree};
 ghost use Rattle.c_meaning.specs.Run.{room as room_for};
 ghost use Rattle.c_meaning.specs.Watching.{seen_by};
@@ -9,7 +9,7 @@ ghost use Rattle.flow_machine.specs.Fronts.{OnBroken};
 ghost use Rattle.flow_machine.specs.Rooms.{HasSpare, KeepsStacks, Lasts};
 ghost use Rattle.flow_machine.specs.Views.{Gives, control_of, state_of};
 
-use c_meaning::{Draw, End, Event, Memory, Watcher};
+use c_meaning::{Draw, End, Event, Memory, Watcher, event_spot};
 use flow_laws::Frame;
 use run_state::{Halt, Left};
 use wv_base::OutOfMemory;
@@ -75,6 +75,21 @@ impl Control {
     }
 }
 
+/// Shows the watcher an event, or where it came alone.
+#[inline(always)]
+pub fn show<W: Watcher>(run: &Running, watcher: &mut W, event: Event) -> Result<(), OutOfMemory>
+    ensures seen { OnOk result (W.seen watcher.new ≡ W.after event run.now.memory.cells (W.seen watcher.old)) }
+    ensures refused { OnErr result (W.seen watcher.new ≡ W.seen watcher.old) }
+    ensures succeeds { W.sure → IsOk result }
+{
+    if let Some(spot) = event_spot(&event) {
+        if watcher.skips(spot) {
+            return Ok(());
+        }
+    }
+    watcher.see(event, &run.memory)
+}
+
 /// Tells the watcher an event.
 #[inline(always)]
 pub fn tell<W: Watcher>(run: &Running, watcher: &mut W, event: Event) -> Result<(), Halt>
@@ -83,7 +98,7 @@ pub fn tell<W: Watcher>(run: &Running, watcher: &mut W, event: Event) -> Result<
     ensures still { OnBroken result (W.seen watcher.new ≡ W.seen watcher.old) }
     ensures lasting { W.sure → Lasts result }
 {
-    match watcher.see(event, &run.memory) {
+    match show(run, watcher, event) {
         Ok(()) => Ok(()),
         Err(OutOfMemory) => Err(Halt::NoMemory),
     }

@@ -8,7 +8,7 @@ ghost use Rattle.flow_laws.specs.Acting.{program_in, input_given, declared, cell
 ghost use Rattle.flow_machine.specs.Rooms.{GoesInRoom, IsCounted, KeepsRooms, Lasts};
 ghost use Rattle.flow_machine.specs.Views.{Gives, state_of};
 
-use crate::control::{Running, room};
+use crate::control::{Running, room, show};
 use c_core::{IntType, Spot, convert};
 use c_meaning::{Draw, DrawKind, Event, Watcher};
 use flow_code::Code;
@@ -63,7 +63,7 @@ pub fn input<W: Watcher>(
     ensures within { W.sure → IsCounted run.old → vec_len run.old.draws < vec_capacity run.old.draws → IsOk result }
 {
     let value = draw::<W>(code, run, DrawKind::Input, spot, ty)?;
-    watcher.see(Event::Return(close, Some(value)), &run.memory)?;
+    show(run, watcher, Event::Return(close, Some(value)))?;
     Ok(value)
 }
 

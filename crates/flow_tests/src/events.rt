@@ -46,4 +46,9 @@ impl Watcher for Events {
         })?;
         Ok(())
     }
+
+    // each event matters
+    fn skips(&mut self, _spot: Spot) -> bool {
+        false
+    }
 }

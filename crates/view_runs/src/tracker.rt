@@ -180,4 +180,9 @@ impl<'a> Watcher for Tracker<'a> {
         }
         Ok(())
     }
+
+    // each event matters
+    fn skips(&mut self, _spot: Spot) -> bool {
+        false
+    }
 }

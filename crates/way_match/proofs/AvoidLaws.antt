@@ -17,7 +17,8 @@ use Rattle.way_match.specs.declared.point.Point as declared
 use Rattle.way_match.specs.declared.avoided.Avoided.{Avoided}
 use Rattle.way_match.specs.declared.avoided.Avoids.{Avoids}
 use Rattle.way_match.specs.inside.Avoided.{avoid_of, avoid_at, ready_at, avoided_if, avoids_in, Longer, Stands, StandsThere}
-use Rattle.way_match.specs.inside.ByPlace.{event_spot, may_pass, point_spot, same_place, spot_cmp}
+use Rattle.c_meaning.specs.Watching.{event_spot}
+use Rattle.way_match.specs.inside.ByPlace.{may_pass, point_spot, same_place, spot_cmp}
 use Rattle.way_match.specs.inside.Prepared.{all_prepared, all_ready, ready_of}
 use Rattle.way_match.specs.inside.Resting as resting
 use Rattle.way_match.specs.inside.Resting.{AvoidsNone}

@@ -11,7 +11,8 @@ use Rattle.std.specs.List.{list_any}
 use Rattle.way_match.specs.Points.{Point, Assume, Target, Enter, Return, Branch, BoundSegment}
 use Rattle.way_match.specs.Passing.{passes, passes_any}
 use Rattle.way_match.specs.Matching.{Seen}
-use Rattle.way_match.specs.inside.ByPlace.{event_spot, may_pass, may_move, numbers_for, moved}
+use Rattle.c_meaning.specs.Watching.{event_spot}
+use Rattle.way_match.specs.inside.ByPlace.{may_pass, may_move, numbers_for, moved}
 use Rattle.way_match.specs.inside.Arena.{IsBlank}
 use Rattle.way_match.proofs.Skips.{Untouched, IsIdle}
 

@@ -7,7 +7,8 @@ use Rattle.std.proofs.lemmas.List.{append-nil}
 use Rattle.way_match.specs.Points.{BoundSegment}
 use Rattle.way_match.specs.declared.states.Node.{Node}
 use Rattle.way_match.specs.Matching.{Seen}
-use Rattle.way_match.specs.inside.ByPlace.{event_spot, moved}
+use Rattle.c_meaning.specs.Watching.{event_spot}
+use Rattle.way_match.specs.inside.ByPlace.{moved}
 use Rattle.way_match.specs.inside.Steps.{step, way_now}
 use Rattle.way_match.specs.inside.Arena.{ways_of, AreHeld, Grown}
 use Rattle.way_match.specs.inside.Turning.{ArePassed}

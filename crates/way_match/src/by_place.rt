@@ -1,7 +1,8 @@
 // Which segments an event can move, found by its place.
 ghost use Rattle.std.specs.Prelude.{◌≡◌, ℕ, true, false, nat_eq, ◌||◌, [], ◌∷◌, ◌++◌, cond, Option, None, Some, IfOk, OnOk};
 ghost use Rattle.c_core.specs.declared.number.Spot.{Spot};
-ghost use Rattle.way_match.specs.inside.ByPlace.{event_spot, is_marked, IsClear, moved, numbers_for, numbers_in, same_place};
+ghost use Rattle.c_meaning.specs.Watching.{event_spot};
+ghost use Rattle.way_match.specs.inside.ByPlace.{is_marked, IsClear, moved, numbers_for, numbers_in, same_place};
 ghost use Rattle.way_match.specs.View.{each_segment_view, point_view, points_view};
 
 use crate::point::{BoundSegment, Point};
@@ -110,28 +111,15 @@ impl ByPlace {
         Ok(found)
     }
 
-    #[inline]
-    fn is_on_a_marked_line(&self, spot: &Spot) -> bool
-        ensures { result ≡ is_marked self.now.lines.items spot.now.line }
+    /// Whether an event at this place may move a segment, by its line alone.
+    #[inline(always)]
+    pub fn is_watched(&self, spot: Spot) -> bool
+        requires { IsClear self.now }
+        ensures { result ≡ false → numbers_in self.now (Some spot) ≡ [] }
     {
         match self.lines.get(spot.line as usize) {
             Some(marked) => *marked,
             None => false,
-        }
-    }
-
-    /// Whether the event may move a segment, by its kind and its line alone.
-    #[inline]
-    pub fn is_watched(&self, event: &Event) -> bool
-        requires { IsClear self.now }
-        ensures { result ≡ false → numbers_in self.now (event_spot event.now) ≡ [] }
-    {
-        match event {
-            Event::At(spot) => self.is_on_a_marked_line(spot),
-            Event::Enter(close) => self.is_on_a_marked_line(close),
-            Event::Return(close, _) => self.is_on_a_marked_line(close),
-            Event::Branch(spot, _) => self.is_on_a_marked_line(spot),
-            Event::Fail { .. } => true,
         }
     }
 

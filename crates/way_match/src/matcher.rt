@@ -11,7 +11,7 @@ use crate::by_place::ByPlace;
 use crate::point::{Bound, BoundSegment};
 use crate::prepared::{Prepared, prepare};
 use crate::states::{States, fill};
-use c_core::Program;
+use c_core::{Program, Spot};
 use c_meaning::{Event, Memory, Watcher};
 use std::alloc::Global;
 use std::marker::Model;
@@ -114,17 +114,11 @@ impl<'a> Watcher for Matcher<'a> {
     // it takes memory
     ghost sure = { ⊥ };
 
-    #[inline]
     fn see(&mut self, event: Event, memory: &Memory) -> Result<(), OutOfMemory> {
         // A number that no u64 holds can't be kept.
         let Some(count) = self.count.checked_add(1) else {
             return Err(OutOfMemory);
         };
-        if !self.by_place.is_watched(&event) {
-            self.states.pass_by();
-            self.count = count;
-            return Ok(());
-        }
         self.states.pass(
             self.program,
             self.bound.segments.as_slice(),
@@ -137,5 +131,18 @@ impl<'a> Watcher for Matcher<'a> {
         )?;
         self.count = count;
         Ok(())
+    }
+
+    #[inline]
+    fn skips(&mut self, spot: Spot) -> bool {
+        let Some(count) = self.count.checked_add(1) else {
+            return false;
+        };
+        if self.by_place.is_watched(spot) {
+            return false;
+        }
+        self.states.pass_by();
+        self.count = count;
+        true
     }
 }

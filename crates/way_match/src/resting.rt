@@ -5,7 +5,7 @@ ghost use Rattle.c_core.specs.Tree.{Program};
 ghost use Rattle.c_core.specs.View.{program_view};
 ghost use Rattle.way_match.specs.inside.Arena.{IsBlank};
 ghost use Rattle.way_match.specs.inside.Avoided.{avoid_at, ready_at, CoversAt};
-ghost use Rattle.way_match.specs.inside.ByPlace.{event_spot};
+ghost use Rattle.c_meaning.specs.Watching.{event_spot};
 ghost use Rattle.way_match.specs.inside.Resting as resting;
 ghost use Rattle.way_match.specs.inside.Resting.{opens_at, AreStill, AvoidsNone, LeavesAll};
 ghost use Rattle.way_match.specs.inside.Turning.{seen_by, sighted};

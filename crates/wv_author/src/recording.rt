@@ -101,4 +101,9 @@ impl<'a> Watcher for Recorder<'a> {
         self.statement = violated_in(event, self.statement);
         Ok(())
     }
+
+    // each event matters
+    fn skips(&mut self, _spot: Spot) -> bool {
+        false
+    }
 }

@@ -9,17 +9,9 @@ use Rattle.std.specs.declared.alloc.Global.{Global}
 use Rattle.c_core.specs.declared.number.Spot.{Spot}
 use Rattle.c_core.specs.Parts.{same_spot}
 use Rattle.c_meaning.specs.declared.run.Event.{Event}
-use Rattle.c_meaning.specs.declared.run.Event.TheVariants as event
+use Rattle.c_meaning.specs.Watching.{event_spot}
 use Rattle.way_match.specs.Points.{Point, Assume, Target, Enter, Return, Branch, BoundSegment}
 use Rattle.way_match.specs.declared.by_place.ByPlace.{ByPlace}
-
--- the place of an event; a failure has none of its own
-abbrev pub event_spot : Event → Option Spot
-event_spot (event.At at) = Some at
-event_spot (event.Enter at) = Some at
-event_spot (event.Return at v) = Some at
-event_spot (event.Branch at taken) = Some at
-event_spot (event.Fail statement full call) = None
 
 -- the place of a waypoint; a target has none of its own
 abbrev pub point_spot : Point → Option Spot

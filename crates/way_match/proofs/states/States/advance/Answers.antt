@@ -1,6 +1,6 @@
 use Rattle.std.proofs.Common.{◌≡◌, inl, ℕ, ◌+◌, ◌<◌, List, [], length, get_or, drop, None, refl, sym, ◌∙◌, subst, arith}
 use Rattle.c_core.specs.View.{program_view}
-use Rattle.way_match.specs.inside.ByPlace.{event_spot}
+use Rattle.c_meaning.specs.Watching.{event_spot}
 use Rattle.way_match.specs.inside.Turning.{seen_by, sighted}
 use Rattle.way_match.proofs.Numbers.{Ahead, ahead_between, ahead_from, ahead_more, all_ahead, idle_if, idle_on, next_ahead}
 use Rattle.way_match.proofs.Passed.{passed_to, passed_within}

@@ -1,6 +1,6 @@
 use Rattle.std.proofs.Common.{◌≡◌, ◌+◌, ◌<◌, ◌≤◌, false, length, drop, None, vec_len, vec_capacity}
 use Rattle.way_match.specs.inside.Arena.{IsFrom}
-use Rattle.way_match.specs.inside.ByPlace.{event_spot}
+use Rattle.c_meaning.specs.Watching.{event_spot}
 use Rattle.way_match.specs.inside.Turning.{outcome, sighted}
 use Rattle.way_match.proofs.Numbers.{Ahead}
 use Rattle.way_match.proofs.states.States.advance.Given as goal

@@ -1,6 +1,7 @@
 use Rattle.std.proofs.Common.{◌≡◌, ◌+◌, [], length, sym, ◌∙◌, ap, arith}
 use Rattle.c_core.specs.View.{program_view}
-use Rattle.way_match.specs.inside.ByPlace.{event_spot, moved}
+use Rattle.c_meaning.specs.Watching.{event_spot}
+use Rattle.way_match.specs.inside.ByPlace.{moved}
 use Rattle.way_match.specs.View.{each_segment_view}
 use Rattle.way_match.proofs.Passed.{stay_passed}
 use Rattle.way_match.proofs.PassedBy.{none_there}

@@ -2,7 +2,8 @@ use Rattle.std.proofs.Common.{◌≡◌, Option, Some, sym, ◌∙◌, ap, subst
 use Rattle.c_core.specs.declared.number.Spot.{Spot}
 use Rattle.way_match.specs.declared.avoided.Avoided.{Avoided}
 use Rattle.way_match.specs.inside.Avoided.{Stands}
-use Rattle.way_match.specs.inside.ByPlace.{event_spot, may_pass}
+use Rattle.c_meaning.specs.Watching.{event_spot}
+use Rattle.way_match.specs.inside.ByPlace.{may_pass}
 use Rattle.way_match.specs.inside.Turning.{sighted}
 use Rattle.way_match.proofs.states.States.rests.Goals as goal
 
