@@ -1,7 +1,7 @@
 -- Comparisons of `\result` with a constant.
-use Rattle.std.proofs.Common.{◌≡◌, ℕ, ◌+◌, ◌*◌, ◌≤◌, ◌<◌, ◌^◌, Bool, true, false, cond, not, ◌&&◌, ℤ, List, length, refl, sym, ◌∙◌, ap, ap₂, subst, arith, IsTrue, Option, Some, None}
-use Rattle.c_core.specs.Tree.{Program, Exp}
-use Rattle.c_core.specs.Types.{width_of, fit, is_zero, IsPromoted, common_of}
+use Rattle.std.proofs.Common.{◌≡◌, ℕ, ◌+◌, ◌*◌, ◌<◌, ◌^◌, Bool, true, false, cond, not, ◌&&◌, ℤ, List, length, refl, ◌∙◌, ap, ap₂, subst, arith, IsTrue}
+use Rattle.c_core.specs.Tree.{Program}
+use Rattle.c_core.specs.Types.{width_of, fit, is_zero, IsPromoted}
 use Rattle.c_core.specs.Operators.{apply_of, is_comparison, is_shift}
 use Rattle.c_core.specs.declared.number.DataModel.{DataModel}
 use Rattle.c_core.specs.declared.number.DataModel.TheVariants.{Ilp32, Lp64}
@@ -16,7 +16,7 @@ use Rattle.circuits.specs.declared.bits.Outcome.{Outcome}
 use Rattle.circuits.specs.declared.net.Bit.{Bit}
 use Rattle.circuits.specs.declared.net.NetNode.{NetNode}
 use Rattle.circuits.specs.Net.{holds, opposite, Grown, Means}
-use Rattle.circuits.specs.Numbers.{typed, AreTyped, Reads}
+use Rattle.circuits.specs.Numbers.{typed, Reads}
 use Rattle.circuits.specs.Outcome as out
 use Rattle.circuits.specs.Outcome.{conversion_cost, binary_cost, binary_type}
 use Rattle.circuits.proofs.Nets.{means_by, opp, and_of, longer}

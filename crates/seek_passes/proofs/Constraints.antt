@@ -1,7 +1,6 @@
 -- Constraints on `\result`, and what the bits of waypoints with expressions cost.
-use Rattle.std.proofs.Common.{◌≡◌, ℕ, ◌+◌, ◌*◌, ◌≤◌, ◌<◌, ◌^◌, Bool, true, false, cond, not, ◌&&◌, ℤ, List, length, refl, sym, ◌∙◌, ap, ap₂, subst, arith, IsTrue, Option, Some, None}
+use Rattle.std.proofs.Common.{◌≡◌, ℕ, ◌+◌, ◌*◌, ◌≤◌, ◌<◌, ◌^◌, Bool, true, false, cond, ◌&&◌, ℤ, List, length, refl, sym, ◌∙◌, ap, ap₂, subst, arith, IsTrue, Option, Some, None}
 use Rattle.c_core.specs.Tree.{Program, Exp}
-use Rattle.c_core.specs.Parts.{same_spot}
 use Rattle.c_core.specs.Places.{call_at}
 use Rattle.c_core.specs.Types.{width_of, fit, common_of, promote_of}
 use Rattle.c_core.specs.Operators.{apply_of, is_comparison, type_for}
@@ -10,7 +9,6 @@ use Rattle.c_core.specs.declared.number.IntType.{IntType}
 use Rattle.c_core.specs.declared.number.Spot.{Spot}
 use Rattle.c_core.specs.declared.number.BinOp.{BinOp}
 use Rattle.c_core.specs.declared.number.BinOp.TheVariants.{Add, Sub, Mul, Div, Rem, Shl, Shr, And, Xor, Or, Lt, Le, Gt, Ge, Eq, Ne}
-use Rattle.c_meaning.specs.Cells.{Cell}
 use Rattle.c_meaning.specs.declared.run.Event.TheVariants as event
 use Rattle.c_meaning.specs.Objects.{type_of}
 use Rattle.c_meaning.specs.Value.{and_then, is_true, wrapping, holds as valid}
@@ -20,7 +18,7 @@ use Rattle.circuits.specs.Net.{holds, Grown, Means, IsIn}
 use Rattle.circuits.proofs.Multiplied.{width_few}
 use Rattle.circuits.proofs.Nets.{means_by, and_of, own}
 use Rattle.sym_state.specs.declared.state.Sym.{Sym}
-use Rattle.sym_state.specs.Standing.{stand, IsState, Turned}
+use Rattle.sym_state.specs.Standing.{stand, IsState}
 use Rattle.sym_state.proofs.Turning.{turned_then}
 use Rattle.sym_values.specs.Valuing.{Decided}
 use Rattle.sym_values.proofs.Reckoning.{net_turned}

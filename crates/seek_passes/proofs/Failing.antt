@@ -1,6 +1,6 @@
 -- A violation completes all segments where it completes the last one.
-use Rattle.std.proofs.Common.{◌≡◌, ℕ, zero, suc, ◌+◌, ◌-◌, ◌≤◌, ◌<◌, Bool, true, false, not, ◌&&◌, ◌||◌, List, [], ◌∷◌, ◌++◌, length, map, take, drop, drop-cons, get_or, refl, sym, ◌∙◌, ap, ap₂, subst, arith, Option}
-use Rattle.std.proofs.lemmas.List.{get_or-map, length-map, map-append, take_all, take_more, length-take-le}
+use Rattle.std.proofs.Common.{◌≡◌, ℕ, suc, ◌+◌, ◌-◌, ◌<◌, Bool, true, false, not, ◌&&◌, ◌||◌, List, [], ◌∷◌, ◌++◌, length, map, take, drop, drop-cons, get_or, refl, sym, ◌∙◌, ap, ap₂, arith, Option}
+use Rattle.std.proofs.lemmas.List.{length-map, map-append, take_all, take_more, length-take-le}
 use Rattle.std.proofs.lemmas.List.Elements.{All-get_or}
 use Rattle.c_core.specs.Tree.{Program}
 use Rattle.c_core.specs.declared.number.Spot.{Spot}
@@ -8,11 +8,9 @@ use Rattle.c_meaning.specs.Cells.{Cell}
 use Rattle.c_meaning.specs.declared.run.Event.{Event}
 use Rattle.c_meaning.specs.declared.run.Event.TheVariants.{Fail}
 use Rattle.circuits.specs.declared.net.Bit.{Bit}
-use Rattle.circuits.specs.declared.net.NetNode.{NetNode}
 use Rattle.circuits.specs.Net.{holds, Means, IsIn}
 use Rattle.circuits.specs.Numbers.{AreIn}
 use Rattle.seek_meaning.specs.Progress.{completes, completes_all, completes_from, stays}
-use Rattle.sym_meaning.specs.Mode.{Mode}
 use Rattle.sym_state.specs.declared.state.Sym.{Sym}
 use Rattle.sym_state.specs.Standing.{stand}
 use Rattle.way_match.specs.Passing.{passes, passes_any, is_assumption}
@@ -20,7 +18,7 @@ use Rattle.way_match.specs.Points.{Point, Assume, Target, Enter, Return, Branch,
 use Rattle.way_match.specs.View.{point_view, points_view, segment_view, each_segment_view}
 use Rattle.way_match.specs.declared.point.BoundSegment.{BoundSegment as Segment}
 use Rattle.way_match.specs.declared.point.Point.{Point as Waypoint}
-use Rattle.seek_passes.specs.Telling.{FollowsSegments, Counts}
+use Rattle.seek_passes.specs.Telling.{Counts}
 use Rattle.seek_passes.proofs.Several.{segments_length, segments_more}
 
 nothing_more : (a b : Bool) → (b || (a && false)) ≡ b

@@ -1,5 +1,5 @@
 -- Events of symbolic runs over a net that grows.
-use Rattle.std.proofs.Common.{◌≡◌, ℕ, ◌+◌, ◌≤◌, Bool, not, List, [], ◌∷◌, length, map, refl, sym, ◌∙◌, ap, ap₂, arith}
+use Rattle.std.proofs.Common.{◌≡◌, ℕ, ◌+◌, ◌≤◌, Bool, not, List, [], ◌∷◌, map, refl, sym, ◌∙◌, ap, ap₂, arith}
 use Rattle.std.specs.List.{list_any}
 use Rattle.std.proofs.lemmas.List.Elements.{All-head, All-tail}
 use Rattle.c_core.specs.Tree.{Program}
@@ -16,7 +16,7 @@ use Rattle.c_meaning.specs.Run.{is_case, way_for}
 use Rattle.circuits.specs.declared.net.Bit.{Bit}
 use Rattle.circuits.specs.declared.net.NetNode.{NetNode}
 use Rattle.circuits.specs.Net.{holds, Means, IsIn}
-use Rattle.circuits.specs.Numbers.{typed, AreIn}
+use Rattle.circuits.specs.Numbers.{AreIn}
 use Rattle.sym_state.specs.declared.state.Sym.{Sym}
 use Rattle.sym_state.specs.Standing.{stand, Added, IsState, Turned}
 use Rattle.sym_state.proofs.Nets.{unchanged, longer_by, in_added, holds_added, all_added, typed_added, are_typed_added}

@@ -1,14 +1,8 @@
 -- The bits of one waypoint, by the event.
-use Rattle.std.proofs.Common.{◌≡◌, ℕ, Bool, ℤ, List, map, not, refl, sym, ◌∙◌, subst}
-use Rattle.std.specs.List.{list_any}
+use Rattle.std.proofs.Common.{◌≡◌, sym, subst}
 use Rattle.c_core.specs.Tree.{Program}
-use Rattle.c_core.specs.Typing.{labels_in}
-use Rattle.c_core.specs.View.{switch_view}
-use Rattle.c_meaning.specs.Cells.{Cell}
-use Rattle.c_meaning.specs.declared.run.Event.{Event as RunEvent}
 use Rattle.circuits.specs.declared.net.Bit.{Bit}
 use Rattle.circuits.specs.Net.{Means}
-use Rattle.circuits.proofs.Nets.{means_by}
 use Rattle.sym_state.specs.declared.state.Sym.{Sym}
 use Rattle.sym_state.specs.Standing.{stand, IsState}
 use Rattle.way_match.specs.Points.{Point}

@@ -6,7 +6,7 @@ use Rattle.way_match.specs.Points.{Point, BoundSegment}
 use Rattle.seek_weight.specs.Tolls.{Happening, AStatement, ACall, points_of, constraint_weight, is_placed, placed_weight}
 use Rattle.seek_passes.specs.declared.event.SymEvent.{SymEvent}
 use Rattle.seek_passes.specs.declared.event.SymEvent.TheVariants.{At, Enter, Return, Branch, Select}
-use Rattle.seek_passes.specs.Charges.{placed_cost, point_weight, any_weight, segments_weight, told_weight, IsPaid}
+use Rattle.seek_passes.specs.Charges.{placed_cost, point_weight, any_weight, told_weight, IsPaid}
 
 one_paid : (b : Bool) (n : ℕ) → cond b (65 + n) 0 ≤ 1 + cond b (64 + n) 0
 one_paid true n = omega arith

@@ -1,20 +1,20 @@
 -- Waypoints, and segments, one after another.
-use Rattle.std.proofs.Common.{◌≡◌, ℕ, zero, suc, ◌+◌, ◌*◌, ◌≤◌, ◌<◌, ◌^◌, Bool, true, false, ◌||◌, List, [], ◌∷◌, ◌++◌, length, map, take, drop, get_or, refl, sym, ◌∙◌, ap, ap₂, subst, arith}
+use Rattle.std.proofs.Common.{◌≡◌, ℕ, zero, suc, ◌+◌, ◌≤◌, ◌<◌, Bool, true, false, ◌||◌, List, [], ◌∷◌, ◌++◌, length, map, take, drop, get_or, refl, sym, ◌∙◌, ap, ap₂, subst, arith}
 use Rattle.std.specs.List.{All}
-use Rattle.std.proofs.lemmas.List.{map-append, take_all, take_more, take-append-drop}
+use Rattle.std.proofs.lemmas.List.{map-append, take_more, take-append-drop}
 use Rattle.std.proofs.lemmas.List.Elements.{All-append, All-cons, All-get_or, All-head, All-nil, All-tail}
 use Rattle.c_core.specs.Tree.{Program}
 use Rattle.c_meaning.specs.Cells.{Cell}
 use Rattle.c_meaning.specs.declared.run.Event.{Event as RunEvent}
 use Rattle.circuits.specs.declared.net.Bit.{Bit}
 use Rattle.circuits.specs.declared.net.NetNode.{NetNode}
-use Rattle.circuits.specs.Net.{holds, Grown, Means, IsIn}
+use Rattle.circuits.specs.Net.{holds, Grown, Means}
 use Rattle.seek_events.specs.declared.segment.Passing.{Passing}
 use Rattle.seek_events.specs.Events.{IsHere, passed_in}
 use Rattle.seek_events.specs.Laws.{passed_by}
 use Rattle.sym_state.specs.declared.state.Sym.{Sym}
-use Rattle.sym_state.specs.Standing.{stand, Added, IsState, Turned}
-use Rattle.sym_state.proofs.Nets.{in_added, holds_added, longer_by}
+use Rattle.sym_state.specs.Standing.{stand, IsState}
+use Rattle.sym_state.proofs.Nets.{in_added, holds_added}
 use Rattle.sym_state.proofs.Turning.{turned_then}
 use Rattle.sym_values.proofs.Reckoning.{net_turned}
 use Rattle.way_match.specs.Passing.{passes, passes_any, is_assumption}
@@ -25,8 +25,8 @@ use Rattle.way_match.specs.declared.point.BoundSegment.{BoundSegment}
 use Rattle.seek_passes.specs.declared.event.SymEvent.{SymEvent}
 use Rattle.seek_passes.specs.Charges.{point_weight, any_weight, segment_weight, segments_weight}
 use Rattle.seek_passes.specs.Event.{event_in, IsEvent}
-use Rattle.seek_passes.specs.Passing.{CanTell, PassesPoint, PassesAny, PassesSegment, PassesSegments}
-use Rattle.seek_passes.proofs.Kept.{same_turned, same_decided, means_added, at_first, can_later}
+use Rattle.seek_passes.specs.Passing.{PassesPoint, PassesAny, PassesSegment, PassesSegments}
+use Rattle.seek_passes.proofs.Kept.{same_turned, same_decided, means_added, at_first}
 
 or_thrice : (a b c : Bool) → (a || (b || c)) ≡ ((a || b) || c)
 or_thrice true b c = refl

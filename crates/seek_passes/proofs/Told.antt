@@ -1,6 +1,5 @@
 -- An event is told.
-use Rattle.std.proofs.Common.{◌≡◌, ℕ, ◌+◌, ◌*◌, ◌≤◌, Bool, true, false, cond, List, [], ◌∷◌, length, map, refl, sym, ◌∙◌, ap, ap₂, subst, arith}
-use Rattle.std.specs.List.{All}
+use Rattle.std.proofs.Common.{◌≡◌, ℕ, Bool, true, false, cond, List, [], ◌∷◌, length, map, refl, sym, ◌∙◌, ap, ap₂, arith}
 use Rattle.std.specs.declared.vec.Vec.{Vec}
 use Rattle.std.specs.declared.alloc.Global.{Global}
 use Rattle.std.proofs.lemmas.List.{length-map}
@@ -14,10 +13,9 @@ use Rattle.seek_events.specs.declared.segment.Passing.{Passing}
 use Rattle.seek_events.specs.Events.{AreAfter, passed_in, values_in}
 use Rattle.seek_events.specs.Laws.{passed_by, AreFollowed}
 use Rattle.seek_events.specs.Passed.{Passed, completes, completed_from}
-use Rattle.seek_meaning.specs.Progress.{completed_after}
 use Rattle.sym_meaning.specs.Mode.{Mode}
 use Rattle.sym_state.specs.declared.state.Sym.{Sym}
-use Rattle.sym_state.specs.Standing.{Stand, stand, IsState, Turned}
+use Rattle.sym_state.specs.Standing.{stand}
 use Rattle.sym_state.specs.Telling.{telling}
 use Rattle.sym_state.proofs.Nets.{added_of, added_then, state_grown, stand_grown}
 use Rattle.way_match.specs.Points.{BoundSegment}

@@ -13,7 +13,7 @@ use denote.Ref.{Bor}
 use Rattle.c_meaning.specs.Objects.{type_of}
 use Rattle.way_match.specs.Points.{ReturnTest, Point, BoundSegment}
 use Rattle.way_match.specs.Passing.{type_of_call}
-use Rattle.seek_weight.specs.Tolls.{Happening, AStatement, ATest, ACall, points_of, constraint_weight, is_placed, placed_weight, toll}
+use Rattle.seek_weight.specs.Tolls.{Happening, AStatement, ATest, ACall, constraint_weight, is_placed, toll}
 use Rattle.seek_passes.specs.declared.event.SymEvent.{SymEvent}
 use Rattle.seek_passes.specs.declared.event.SymEvent.TheVariants.{At, Enter, Return, Branch, Select}
 

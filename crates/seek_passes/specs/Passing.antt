@@ -5,7 +5,7 @@ use Rattle.c_core.specs.Tree.{Program}
 use Rattle.c_core.specs.Operators.{is_comparison}
 use Rattle.c_core.specs.Typing.{is_typed, has_value}
 use Rattle.circuits.specs.declared.net.Bit.{Bit}
-use Rattle.way_match.specs.Points.{ReturnTest, Point, Assume, Target, Enter, Return, Branch, BoundSegment}
+use Rattle.way_match.specs.Points.{ReturnTest, Point, Assume, Return, BoundSegment}
 use Rattle.way_match.specs.Passing.{passes, passes_any}
 use Rattle.sym_state.specs.declared.state.Sym.{Sym}
 use Rattle.sym_state.specs.Standing.{stand, IsState, Turned}

@@ -1,5 +1,5 @@
 -- What an event does to symbolic runs that are judged in a mode that follows the segments of a witness.
-use Rattle.std.specs.Prelude.{◌≡◌, ℕ, Bool, List, length, Option}
+use Rattle.std.specs.Prelude.{◌≡◌, Bool, List, length, Option}
 use Rattle.c_core.specs.Tree.{Program}
 use Rattle.c_core.specs.declared.number.Spot.{Spot}
 use Rattle.c_meaning.specs.Cells.{Cell}

@@ -1,9 +1,8 @@
 use mir.Val.{SFits}
 use mir.Syntax.{w128}
-use Rattle.std.proofs.Common.{◌≡◌, ◌<◌, ◌+◌, ◌^◌, rules, length, subst, ap, arith}
+use Rattle.std.proofs.Common.{rules}
 use Rattle.std.proofs.lemmas.Int.{to_z-of_z}
 use Rattle.c_core.specs.View.{program_view}
-use Rattle.circuits.specs.Numbers.{typed}
 use Rattle.circuits.proofs.Nets.{opp}
 use Rattle.way_match.specs.View.{test_view}
 use Rattle.seek_passes.proofs.Constraints.{meets_some, meets_none, meets_room}

@@ -1,4 +1,4 @@
-use Rattle.std.proofs.Common.{◌≡◌, ℕ, ℤ, Bool, ◌+◌, ◌<◌, ◌^◌, length, subst, sym, ap, arith, Some}
+use Rattle.std.proofs.Common.{ℕ, ℤ, Bool, subst, sym, ap, arith}
 use Rattle.c_core.specs.View.{program_view}
 use Rattle.circuits.specs.Net.{holds}
 use Rattle.circuits.specs.Numbers.{typed}

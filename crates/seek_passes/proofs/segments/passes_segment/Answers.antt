@@ -1,4 +1,4 @@
-use Rattle.std.proofs.Common.{◌≡◌, sym, subst, ap, arith}
+use Rattle.std.proofs.Common.{sym, subst, ap, arith}
 use Rattle.std.specs.List.{All}
 use Rattle.c_core.specs.View.{program_view}
 use Rattle.way_match.specs.View.{point_view, points_view, segment_view}

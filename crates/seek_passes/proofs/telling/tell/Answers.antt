@@ -1,4 +1,4 @@
-use Rattle.std.proofs.Common.{◌≡◌, ◌+◌, ◌*◌, ◌≤◌, length, sym, ◌∙◌, subst, ap, arith}
+use Rattle.std.proofs.Common.{length, sym, ◌∙◌, subst, ap, arith}
 use Rattle.std.specs.List.{All}
 use Rattle.c_core.specs.View.{program_view}
 use Rattle.circuits.specs.Net.{IsIn}

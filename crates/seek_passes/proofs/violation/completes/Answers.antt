@@ -1,4 +1,4 @@
-use Rattle.std.proofs.Common.{◌≡◌, ◌&&◌, not, ◌∙◌, ap, ap₂}
+use Rattle.std.proofs.Common.{◌&&◌, not, ◌∙◌, ap, ap₂}
 use Rattle.c_meaning.specs.declared.run.Event.TheVariants.{Fail}
 use Rattle.way_match.specs.Passing.{passes_any}
 use Rattle.way_match.specs.View.{points_view}

@@ -1,4 +1,4 @@
-use Rattle.std.proofs.Common.{◌≡◌, true, false, length, sym, ◌∙◌, subst, arith}
+use Rattle.std.proofs.Common.{length, sym, ◌∙◌, subst, arith}
 use Rattle.circuits.proofs.Nets.{opp}
 use Rattle.way_match.specs.View.{each_segment_view}
 use Rattle.seek_passes.specs.Telling.{Counts}

@@ -1,4 +1,4 @@
-use Rattle.std.proofs.Common.{◌≡◌, ◌||◌, ◌+◌, drop, refl, sym, ◌∙◌, ap, arith}
+use Rattle.std.proofs.Common.{◌||◌, ◌+◌, drop, refl, sym, ◌∙◌, ap, arith}
 use Rattle.std.proofs.lemmas.List.{at_drop_all}
 use Rattle.c_meaning.specs.declared.run.Event.TheVariants.{Fail}
 use Rattle.way_match.specs.Passing.{passes_any}

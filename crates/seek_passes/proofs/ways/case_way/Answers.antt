@@ -1,10 +1,8 @@
 use mir.Val.{SFits}
 use mir.Syntax.{w128}
-use Rattle.std.proofs.Common.{◌≡◌, true, false, rules, refl, sym, ◌∙◌, arith}
+use Rattle.std.proofs.Common.{rules, sym, ◌∙◌, arith}
 use Rattle.std.proofs.lemmas.Int.{to_z-of_z}
-use Rattle.c_meaning.specs.Run.{is_case}
 use Rattle.circuits.proofs.Nets.{opp}
-use Rattle.sym_choices.proofs.Labels.{label_of}
 use Rattle.seek_passes.proofs.Arms.{found_way, none_more, no_way}
 use Rattle.seek_passes.proofs.ways.case_way.Goals as goal
 

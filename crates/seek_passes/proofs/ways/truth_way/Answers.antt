@@ -1,5 +1,5 @@
 use Rattle.std.proofs.Common.{refl}
-use Rattle.c_meaning.specs.declared.run.Way.TheVariants.{Case, Default}
+use Rattle.c_meaning.specs.declared.run.Way.TheVariants.{Default}
 use Rattle.seek_passes.proofs.Arms.{truth_taken, truth_elsewhere}
 use Rattle.seek_passes.proofs.ways.truth_way.Goals as goal
 
