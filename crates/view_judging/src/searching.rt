@@ -58,15 +58,19 @@ fn explain_none(
     out.warning(code, File::Witness, None, told)
 }
 
-/// A refusal of a search alone.
-fn explain_refused(
-    code: &'static str,
-    file: File,
-    alloc: Global,
-    out: &mut Messages,
-) -> Result<(), OutOfMemory> {
-    let told = String::from_str(alloc, advice(code))?;
-    out.error(code, file, None, told)
+/// A witness of the other kind.
+fn explain_kind(alloc: Global, out: &mut Messages) -> Result<(), OutOfMemory> {
+    let told = String::from_str(alloc, advice("kind"))?;
+    out.error("kind", File::Witness, None, told)
+}
+
+/// Runs that are too big.
+fn explain_weight(alloc: Global, out: &mut Messages) -> Result<(), OutOfMemory> {
+    let rule = advice("weight");
+    let told = format!(in alloc;
+        "{rule}: a smaller --bound, or a witness with fewer waypoints, makes them smaller"
+    )?;
+    out.error("weight", File::Program, None, told)
 }
 
 /// What there is to say of a reply of `seek` to files that were read whole.
@@ -86,9 +90,9 @@ pub fn explain_search(
         let more = "waypoints that say more of the way make the search smaller";
         explain_none(alloc, "undecided", more, out)
     } else if first == "refused kind" {
-        explain_refused("kind", File::Witness, alloc, out)
+        explain_kind(alloc, out)
     } else if first == "refused weight" {
-        explain_refused("weight", File::Program, alloc, out)
+        explain_weight(alloc, out)
     } else {
         let question = Question {
             budgets: OF_A_RUN,
