@@ -34,13 +34,13 @@ rare a rest arrive give truth convert look two one jump = tt
 pub at_call : (a : Action) → IsRare a → ((o n : ℕ) (i : Operand) (at : Spot) (reads : Bool) → a ≡ Aim o n i at reads → ⊥) → ((n m : ℕ) (l r : Operand) (at : Spot) → a ≡ Row n m l r at → ⊥)
     → ((at : Spot) (cases : List (ℤ × ℕ)) (other : ℕ) → a ≡ Select at cases other → ⊥) → (a ≡ Open → ⊥) → (a ≡ Close → ⊥)
     → ((at : Spot) (o n : ℕ) (ty : IntType) (draws : Bool) → a ≡ Declare at o n ty draws → ⊥) → IsAtCall a
-at_call (Aim o n i at reads) is aim row select open close declare = absurd (aim o n i at reads refl)
-at_call (Row n m l r at) is aim row select open close declare = absurd (row n m l r at refl)
-at_call (Select at cases other) is aim row select open close declare = absurd (select at cases other refl)
-at_call Open is aim row select open close declare = absurd (open refl)
-at_call Close is aim row select open close declare = absurd (close refl)
-at_call (Declare at o n ty draws) is aim row select open close declare = absurd (declare at o n ty draws refl)
-at_call a is aim row select open close declare = is
+at_call (Aim o n i at reads) is aim row select opens closes declares = absurd (aim o n i at reads refl)
+at_call (Row n m l r at) is aim row select opens closes declares = absurd (row n m l r at refl)
+at_call (Select at cases other) is aim row select opens closes declares = absurd (select at cases other refl)
+at_call Open is aim row select opens closes declares = absurd (opens refl)
+at_call Close is aim row select opens closes declares = absurd (closes refl)
+at_call (Declare at o n ty draws) is aim row select opens closes declares = absurd (declares at o n ty draws refl)
+at_call a is aim row select opens closes declares = is
 
 -- there is no further one
 pub no_other : (a : Action) → IsAtCall a → ((at : Spot) → a ≡ Enter at → ⊥) → ((f n : ℕ) (site : CallSite) → a ≡ Call f n site → ⊥) → ((at close : Spot) (ty : IntType) (x : Into) → a ≡ Input at close ty x → ⊥)
