@@ -36,6 +36,12 @@ returns-in-Convert-clause-front g c = none_broken g.W.Watcher.after c.finish-in-
 pub returns-in-Look-clause-acts : goal.returns-in-Look-clause-acts
 returns-in-Look-clause-acts g c = rw c.in-Look.is (c.look_up.ensures.acts c.args.code.now)
 
+pub returns-in-Operate-clause-acts : goal.returns-in-Operate-clause-acts
+returns-in-Operate-clause-acts g c = rw c.in-Operate.is c.operate_two.ensures.acts
+
+pub returns-in-OperateOne-clause-acts : goal.returns-in-OperateOne-clause-acts
+returns-in-OperateOne-clause-acts g c = rw c.in-OperateOne.is c.operate_alone.ensures.acts
+
 pub returns-in-Look-clause-front : goal.returns-in-Look-clause-front
 returns-in-Look-clause-front g c = none_broken g.W.Watcher.after c.look_up.result _ _ _ c.look_up.ensures.still
 
