@@ -135,8 +135,8 @@ pub fn operate_two<W: Watcher>(
     into: &Into,
 ) -> Result<(), Halt>
     ensures acts { Acts result (control_of control.new) (state_of run.new (W.seen watcher.new))
-        (acted code.now W.Seen W.after (Operate op word count left.now right.now from.now into.now) (control_of control.old)
-        (state_of run.old (W.seen watcher.old))) }
+        (acted code.now W.Seen W.after (Operate op word count left.now right.now from.now into.now)
+        (control_of control.old) (state_of run.old (W.seen watcher.old))) }
     ensures still { OnBroken result (W.seen watcher.new ≡ W.seen watcher.old) }
     ensures kept { KeepsStacks control.old control.new }
     ensures rooms { KeepsRooms run.old run.new }
