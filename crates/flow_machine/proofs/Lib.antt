@@ -5,6 +5,7 @@ pub mod Drawn
 pub mod Stored
 pub mod Passed
 pub mod Acted
+pub mod Rarely
 pub mod Exact
 pub mod Dividing
 pub mod Going

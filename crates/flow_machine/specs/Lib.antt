@@ -1,3 +1,4 @@
+pub mod Actions
 pub mod Views
 pub mod Rooms
 pub mod Runs

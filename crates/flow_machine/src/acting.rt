@@ -1,78 +1,28 @@
 // One operation.
 ghost use Rattle.std.specs.Prelude.{◌≡◌, ◌<◌, [], ◌∷◌, reverse, length, vec_len, vec_capacity, OnOk, IsOkUnless};
-ghost use Rattle.c_core.specs.Tree.{Program as Tree};
 ghost use Rattle.c_meaning.specs.Acts.{Go};
-ghost use Rattle.c_meaning.specs.Run as runs;
-ghost use Rattle.c_meaning.specs.Watching.{seen_by};
 ghost use Rattle.run_state.specs.Fronts.{SawFront};
-ghost use Rattle.run_state.specs.Interpreting.{same, where_of};
-ghost use Rattle.flow_code.specs.declared.code.Action.TheVariants.{Row, Select, Input, Reach, Return};
+ghost use Rattle.run_state.specs.Interpreting.{same};
+ghost use Rattle.flow_code.specs.declared.code.Action.TheVariants.{Select, Input, Reach, Return};
 ghost use Rattle.flow_code.specs.declared.code.Code.{Code};
-ghost use Rattle.flow_laws.specs.Acting.{program_in, acted, scope_closed, aimed_at, sent, reached_at, converted};
+ghost use Rattle.flow_laws.specs.Acting.{acted, scope_closed, sent, reached_at, converted};
+ghost use Rattle.flow_machine.specs.Actions.{IsAtCall, IsRare};
 ghost use Rattle.flow_machine.specs.Fronts.{OnBroken, events_of};
 ghost use Rattle.flow_machine.specs.Rooms.{GoesInRoom, HasSpare, IsCounted, KeepsRooms, KeepsStacks, Lasts};
-ghost use Rattle.flow_machine.specs.Views.{Acts, Gives, answer_finished, control_of, state_of};
+ghost use Rattle.flow_machine.specs.Views.{Acts, Gives, control_of, state_of};
 
-use crate::arithmetic::{convert, operate, operate_one, settle};
+use crate::arithmetic::convert;
 use crate::calling::{call, leave};
 use crate::control::{Control, Running, tell};
 use crate::drawing::{declare, input};
-use crate::operands::{in_row, index_below, look, take};
+use crate::elements::{aim, find_in_row, look_up};
+use crate::operands::take;
+use crate::operating::{operate_alone, operate_two, violate};
 use crate::results::finish;
-use c_core::{Done, IntType, Property, Spot};
+use c_core::{IntType, Property, Spot};
 use c_meaning::{End, Event, Watcher, Way};
-use flow_code::{Action, Code, Into, Operand, Source, Table};
+use flow_code::{Action, Code, Into, Table};
 use run_state::{Around, Halt};
-
-// The violation: its event, and the end of the run.
-fn violate<W: Watcher>(
-    run: &Running,
-    watcher: &mut W,
-    around: Around,
-    spot: Spot,
-    call: Option<Spot>,
-) -> Result<i128, Halt>
-    ensures gives { (p : Tree) → Gives same result (state_of run.now (W.seen watcher.new))
-        (runs.violated p W.Seen (seen_by W.after) (where_of around) spot call (state_of run.now (W.seen watcher.old))) }
-    ensures still { OnBroken result (W.seen watcher.new ≡ W.seen watcher.old) }
-    ensures lasting { W.sure → Lasts result }
-{
-    tell(
-        run,
-        watcher,
-        Event::Fail {
-            statement: around.statement,
-            full: around.full,
-            call,
-        },
-    )?;
-    Err(Halt::Ends(End::Violated(spot)))
-}
-
-// An operator's answer: its value, an overflow by the property, or an undefined end.
-#[inline]
-fn answer<W: Watcher>(
-    code: &Code,
-    run: &Running,
-    watcher: &mut W,
-    from: &Source,
-    done: Done,
-) -> Result<i128, Halt>
-    ensures gives { Gives same result (state_of run.now (W.seen watcher.new))
-        (runs.answered (program_in code.now) W.Seen (seen_by W.after) (where_of from.now.around) from.now.spot done
-        (state_of run.now (W.seen watcher.old))) }
-    ensures still { OnBroken result (W.seen watcher.new ≡ W.seen watcher.old) }
-    ensures lasting { W.sure → Lasts result }
-{
-    match done {
-        Done::Value(value) => Ok(value),
-        Done::Undefined => Err(Halt::Ends(End::Undefined(from.spot))),
-        Done::Overflow(value) => match code.property {
-            Property::UnreachCall => Ok(value),
-            Property::NoOverflow => violate(run, watcher, from.around, from.spot, None),
-        },
-    }
-}
 
 // A call of `reach_error`: the violation, or the end of the run where the property isn't about it.
 fn reach<W: Watcher>(
@@ -137,107 +87,6 @@ fn take_input<W: Watcher>(
 {
     let value = input(code, run, watcher, spot, close, ty)?;
     finish(control, run, watcher, value, value, into)
-}
-
-// An answer that is no plain value, apart from what is done often.
-#[inline(never)]
-fn finish_answer<W: Watcher>(
-    code: &Code,
-    control: &mut Control,
-    run: &mut Running,
-    watcher: &mut W,
-    from: &Source,
-    left: i128,
-    done: Done,
-    into: &Into,
-) -> Result<(), Halt>
-    ensures acts { Acts result (control_of control.new) (state_of run.new (W.seen watcher.new))
-        (answer_finished code.now W.Seen W.after from.now left done into.now (control_of control.old)
-        (state_of run.old (W.seen watcher.old))) }
-    ensures still { OnBroken result (W.seen watcher.new ≡ W.seen watcher.old) }
-    ensures kept { KeepsStacks control.old control.new }
-    ensures rooms { KeepsRooms run.old run.new }
-    ensures lasting { W.sure → HasSpare control.old → Lasts result }
-{
-    let value = answer(code, run, watcher, from, done)?;
-    finish(control, run, watcher, left, value, into)
-}
-
-// An answer goes where it is said.
-#[inline(always)]
-fn conclude<W: Watcher>(
-    code: &Code,
-    control: &mut Control,
-    run: &mut Running,
-    watcher: &mut W,
-    from: &Source,
-    left: i128,
-    done: Done,
-    into: &Into,
-) -> Result<(), Halt>
-    ensures acts { Acts result (control_of control.new) (state_of run.new (W.seen watcher.new))
-        (answer_finished code.now W.Seen W.after from.now left done into.now (control_of control.old)
-        (state_of run.old (W.seen watcher.old))) }
-    ensures still { OnBroken result (W.seen watcher.new ≡ W.seen watcher.old) }
-    ensures kept { KeepsStacks control.old control.new }
-    ensures rooms { KeepsRooms run.old run.new }
-    ensures lasting { W.sure → HasSpare control.old → Lasts result }
-{
-    match done {
-        Done::Value(value) => finish(control, run, watcher, left, value, into),
-        _ => finish_answer(code, control, run, watcher, from, left, done, into),
-    }
-}
-
-// The index of an element, and its value where it is read.
-fn aim<W: Watcher>(
-    control: &mut Control,
-    run: &Running,
-    object: u32,
-    size: u32,
-    index: &Operand,
-    spot: Spot,
-    reads: bool,
-) -> Result<(), Halt>
-    ensures acts { (c : Code) (x : W.Seen) → Acts result (control_of control.new) (state_of run.now x)
-        (aimed_at c W.Seen W.after object size index.now spot reads (control_of control.old) (state_of run.now x)) }
-    ensures kept { KeepsStacks control.old control.new }
-    ensures lasting { HasSpare control.old → Lasts result }
-{
-    let index = take(control, run, index);
-    let Some(found) = index_below(size, index) else {
-        return Err(Halt::Ends(End::Undefined(spot)));
-    };
-    control.push(i128::from(found))?;
-    if reads {
-        control.push(look(run, object, found))?;
-    }
-    Ok(())
-}
-
-// The cell of a row and a column, apart from what is done often.
-#[inline(never)]
-fn find_in_row<W: Watcher>(
-    control: &mut Control,
-    run: &Running,
-    rows: u32,
-    columns: u32,
-    left: &Operand,
-    right: &Operand,
-    spot: Spot,
-) -> Result<(), Halt>
-    ensures acts { (c : Code) (x : W.Seen) → Acts result (control_of control.new) (state_of run.now x)
-        (acted c W.Seen W.after (Row rows columns left.now right.now spot) (control_of control.old)
-        (state_of run.now x)) }
-    ensures kept { KeepsStacks control.old control.new }
-    ensures lasting { HasSpare control.old → Lasts result }
-{
-    let column = take(control, run, right);
-    let row = take(control, run, left);
-    let Some(found) = in_row(rows, columns, row, column) else {
-        return Err(Halt::Ends(End::Undefined(spot)));
-    };
-    control.push(i128::from(found))
 }
 
 // A `switch` takes its value off the stack, reports the way, and goes on at an address.
@@ -342,6 +191,101 @@ fn give_back<W: Watcher>(
     leave(control, run, watcher, Some(value))
 }
 
+// What is done at calls: of functions that the code has, of input functions, of `reach_error`.
+#[inline(always)]
+fn act_at_call<W: Watcher>(
+    code: &Code,
+    control: &mut Control,
+    run: &mut Running,
+    watcher: &mut W,
+    action: &Action,
+) -> Result<(), Halt>
+    requires { IsAtCall action.now }
+    ensures acts { Acts result (control_of control.new) (state_of run.new (W.seen watcher.new))
+        (acted code.now W.Seen W.after action.now (control_of control.old) (state_of run.old (W.seen watcher.old))) }
+    ensures front { OnBroken result (SawFront W.after (events_of code.now action.now (control_of control.old)
+        (state_of run.old [])) (W.seen watcher.old) (W.seen watcher.new)) }
+    ensures kept { KeepsStacks control.old control.new }
+    ensures rooms { KeepsRooms run.old run.new }
+    ensures lasting { W.sure → HasSpare control.old → IsCounted run.old
+        → GoesInRoom run.old (acted code.now W.Seen W.after action.now (control_of control.old)
+        (state_of run.old (W.seen watcher.old))) → Lasts result }
+{
+    match action {
+        Action::Enter(close) => tell(run, watcher, Event::Enter(*close)),
+        Action::Call {
+            function,
+            arguments,
+            site,
+        } => call::<W>(code, control, run, *function, *arguments, *site),
+        Action::Input {
+            spot,
+            close,
+            ty,
+            into,
+        } => take_input(code, control, run, watcher, *spot, *close, *ty, into),
+        Action::Reach { around, spot } => come_to_error(
+            code, control, run, watcher, *around, *spot,
+        ),
+        Action::End => Err(Halt::Ends(End::Ended)),
+        Action::Leave => leave(control, run, watcher, None),
+        Action::Return(ty) => give_back(control, run, watcher, ty),
+        _ => unreachable!(),
+    }
+}
+
+// What is done rarely, apart from what is done often.
+#[inline(never)]
+fn act_rarely<W: Watcher>(
+    code: &Code,
+    control: &mut Control,
+    run: &mut Running,
+    watcher: &mut W,
+    action: &Action,
+) -> Result<(), Halt>
+    requires { IsRare action.now }
+    ensures acts { Acts result (control_of control.new) (state_of run.new (W.seen watcher.new))
+        (acted code.now W.Seen W.after action.now (control_of control.old) (state_of run.old (W.seen watcher.old))) }
+    ensures front { OnBroken result (SawFront W.after (events_of code.now action.now (control_of control.old)
+        (state_of run.old [])) (W.seen watcher.old) (W.seen watcher.new)) }
+    ensures kept { KeepsStacks control.old control.new }
+    ensures rooms { KeepsRooms run.old run.new }
+    ensures lasting { W.sure → HasSpare control.old → IsCounted run.old
+        → GoesInRoom run.old (acted code.now W.Seen W.after action.now (control_of control.old)
+        (state_of run.old (W.seen watcher.old))) → Lasts result }
+{
+    match action {
+        Action::Aim {
+            object,
+            size,
+            index,
+            spot,
+            reads,
+        } => aim::<W>(control, run, *object, *size, index, *spot, *reads),
+        Action::Row {
+            rows,
+            columns,
+            left,
+            right,
+            spot,
+        } => find_in_row::<W>(control, run, *rows, *columns, left, right, *spot),
+        Action::Select { at, cases, other } => select(control, run, watcher, *at, cases, *other),
+        Action::Open => open_scope(control, run),
+        Action::Close => {
+            close_scope::<W>(control, run);
+            Ok(())
+        }
+        Action::Declare {
+            spot,
+            object,
+            size,
+            ty,
+            draws,
+        } => declare::<W>(code, run, *spot, *object, *size, *ty, *draws),
+        _ => act_at_call(code, control, run, watcher, action),
+    }
+}
+
 /// Does an action; `control.at` is the address behind it.
 #[inline(always)]
 pub fn act<W: Watcher>(
@@ -382,27 +326,7 @@ pub fn act<W: Watcher>(
             index,
             spot,
             into,
-        } => {
-            let Some(index) = index_below(*size, take(control, run, index)) else {
-                return Err(Halt::Ends(End::Undefined(*spot)));
-            };
-            let value = look(run, *object, index);
-            finish(control, run, watcher, value, value, into)
-        }
-        Action::Aim {
-            object,
-            size,
-            index,
-            spot,
-            reads,
-        } => aim::<W>(control, run, *object, *size, index, *spot, *reads),
-        Action::Row {
-            rows,
-            columns,
-            left,
-            right,
-            spot,
-        } => find_in_row::<W>(control, run, *rows, *columns, left, right, *spot),
+        } => look_up(control, run, watcher, *object, *size, index, *spot, into),
         Action::Operate {
             op,
             word,
@@ -411,60 +335,20 @@ pub fn act<W: Watcher>(
             right,
             from,
             into,
-        } => {
-            let b = take(control, run, right);
-            let a = take(control, run, left);
-            if let Some(value) = settle(*op, *word, a, *count, b) {
-                return finish(control, run, watcher, a, value, into);
-            }
-            let done = operate(*op, *word, a, *count, b);
-            conclude(code, control, run, watcher, from, a, done, into)
-        }
+        } => operate_two(
+            code, control, run, watcher, *op, *word, *count, left, right, from, into,
+        ),
         Action::OperateOne {
             op,
             word,
             of,
             from,
             into,
-        } => {
-            let a = take(control, run, of);
-            let done = operate_one(*op, *word, a);
-            conclude(code, control, run, watcher, from, a, done, into)
-        }
+        } => operate_alone(code, control, run, watcher, *op, *word, of, from, into),
         Action::Jump(to) => {
             control.at = *to as usize;
             Ok(())
         }
-        Action::Select { at, cases, other } => select(control, run, watcher, *at, cases, *other),
-        Action::Open => open_scope(control, run),
-        Action::Close => {
-            close_scope::<W>(control, run);
-            Ok(())
-        }
-        Action::Declare {
-            spot,
-            object,
-            size,
-            ty,
-            draws,
-        } => declare::<W>(code, run, *spot, *object, *size, *ty, *draws),
-        Action::Enter(close) => tell(run, watcher, Event::Enter(*close)),
-        Action::Call {
-            function,
-            arguments,
-            site,
-        } => call::<W>(code, control, run, *function, *arguments, *site),
-        Action::Input {
-            spot,
-            close,
-            ty,
-            into,
-        } => take_input(code, control, run, watcher, *spot, *close, *ty, into),
-        Action::Reach { around, spot } => come_to_error(
-            code, control, run, watcher, *around, *spot,
-        ),
-        Action::End => Err(Halt::Ends(End::Ended)),
-        Action::Leave => leave(control, run, watcher, None),
-        Action::Return(ty) => give_back(control, run, watcher, ty),
+        _ => act_rarely(code, control, run, watcher, action),
     }
 }

@@ -1,4 +1,5 @@
 // What is seen of a run.
+use c_core::Spot;
 use c_meaning::{Event, Memory, Watcher};
 use wv_base::OutOfMemory;
 

@@ -17,9 +17,9 @@ pub returns-clause-gives : goal.returns-clause-gives
 returns-clause-gives g c =
     let x = g.W.Watcher.seen c.args.watcher.now in
     let z : SFits w128 c.in_ok-value.value = search rules in
-    let told = rw (to_z-of_z w128 c.in_ok-value.value z) at (c.in_ok-see.ensures.ok) in
+    let told = rw (to_z-of_z w128 c.in_ok-value.value z) at (c.in_ok-show.ensures.seen) in
     rw (to_z-of_z w128 c.in_ok-value.value z)
-    (goes same same c.in_ok-value.value (state_of c.draw.new.run x) (state_of c.draw.new.run (g.W.Watcher.seen c.see.new.self))
+    (goes same same c.in_ok-value.value (state_of c.draw.new.run x) (state_of c.draw.new.run (g.W.Watcher.seen c.show.new.watcher))
     (runs.draw (program_in c.args.code.now) g.W.Watcher.Seen (seen_by g.W.Watcher.after) Input c.args.spot c.args.ty (state_of c.args.run.now x))
     (λ v u. bind (tell c.args.code.now g.W.Watcher.Seen g.W.Watcher.after (Returned c.args.close (Some v)) u) (λ _ w. Go v w)) (Ok c.in_ok-value.value)
     (c.in_ok-value.ensures.gives x) (ap (λ w. Go c.in_ok-value.value (state_of c.draw.new.run w)) (sym told)))

@@ -4,7 +4,7 @@ use mir.Syntax.{w128}
 use Rattle.std.proofs.lemmas.Int.{to_z-of_z}
 use Rattle.flow_machine.specs.Views.{control_of, state_of}
 use Rattle.flow_machine.proofs.Acted.{answered_on}
-use Rattle.flow_machine.proofs.acting.finish_answer.Goals as goal
+use Rattle.flow_machine.proofs.operating.finish_answer.Goals as goal
 
 pub returns-clause-acts : goal.returns-clause-acts
 returns-clause-acts g c =

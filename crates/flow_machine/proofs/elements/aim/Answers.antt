@@ -1,5 +1,5 @@
 use Rattle.std.proofs.Common.{rules, ◌≡◌, Err, arith}
-use Rattle.flow_machine.proofs.acting.aim.Goals as goal
+use Rattle.flow_machine.proofs.elements.aim.Goals as goal
 
 pub returns-in_err-push-clause-lasting : goal.returns-in_err-push-clause-lasting
 returns-in_err-push-clause-lasting g c = λ spare.

@@ -1,5 +1,5 @@
 use Rattle.std.proofs.Common.{rules, ◌≡◌, Err}
-use Rattle.flow_machine.proofs.acting.violate.Goals as goal
+use Rattle.flow_machine.proofs.operating.violate.Goals as goal
 
 pub returns-in_err-tell-clause-lasting : goal.returns-in_err-tell-clause-lasting
 returns-in_err-tell-clause-lasting g c = λ sure.
