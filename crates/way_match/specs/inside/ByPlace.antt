@@ -8,8 +8,6 @@ use Rattle.std.specs.declared.vec.Vec.{Vec}
 use Rattle.std.specs.declared.alloc.Global.{Global}
 use Rattle.c_core.specs.declared.number.Spot.{Spot}
 use Rattle.c_core.specs.Parts.{same_spot}
-use Rattle.c_meaning.specs.declared.run.Event.{Event}
-use Rattle.c_meaning.specs.Watching.{event_spot}
 use Rattle.way_match.specs.Points.{Point, Assume, Target, Enter, Return, Branch, BoundSegment}
 use Rattle.way_match.specs.declared.by_place.ByPlace.{ByPlace}
 

@@ -1,4 +1,4 @@
-use Rattle.std.proofs.Common.{◌≡◌, ℕ, ◌+◌, List, [], length, Option, sym, ◌∙◌, ap, arith, rules}
+use Rattle.std.proofs.Common.{◌≡◌, ℕ, ◌+◌, List, [], length, Option, Some, sym, ◌∙◌, ap, arith, rules}
 use Rattle.c_core.specs.View.{program_view}
 use Rattle.c_meaning.specs.Watching.{event_spot}
 use Rattle.way_match.specs.inside.Arena.{ways_of}
@@ -23,14 +23,14 @@ invariant_of-self c =
       still = c.pass_by.ensures.still c.self.invariant.still;
     }
 
-pub returns-then-not-is_watched-clause-ok : goal.returns-then-not-is_watched-clause-ok
-returns-then-not-is_watched-clause-ok c =
+pub returns-clause-taken : goal.returns-clause-taken
+returns-clause-taken c taken event cells at =
     let ss = each_segment_view c.self.inside.bound.now.segments in
     let l = segments_length c.self.inside.bound.now.segments in
     let states : length c.self.inside.states.live.items ≡ length ss + 1 = omega (arith, l, c.self.invariant.states_each) in
-    let none : moved (event_spot c.args.event) 0 ss ≡ [] = sym (c.self.invariant.places (event_spot c.args.event)) ∙ c.is_watched.ensures c.if-not-is_watched.true in
+    let none : moved (event_spot event) 0 ss ≡ [] = ap (λ s. moved s 0 ss) at ∙ sym (c.self.invariant.places (Some c.args.spot)) ∙ c.is_watched.ensures c.if-is_watched.false in
     let one : c.in-Some.count ≡ c.self.inside.count + 1 = search rules in
-    let ways = c.pass_by.ensures.ways (program_view c.self.inside.program.now) (record { event = c.args.event; cells = c.args.memory.now.cells }) c.self.inside.count ss states none in
+    let ways = c.pass_by.ensures.ways (program_view c.self.inside.program.now) (record { event = event; cells = cells }) c.self.inside.count ss states none in
     ap (λ (k : ℕ). record { program = c.self.inside.program.now; bound = c.self.inside.bound.now; count = k; ways = ways_of c.pass_by.new.self.nodes.items 0 c.pass_by.new.self.live.items }) one ∙
     ap (λ (ws : List (Option (List ℕ))). record { program = c.self.inside.program.now; bound = c.self.inside.bound.now; count = c.self.inside.count + 1; ways = ws }) ways ∙
-    ap (after c.args.event c.args.memory.now.cells) c.self.view_is
+    ap (after event cells) c.self.view_is
