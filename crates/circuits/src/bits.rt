@@ -58,6 +58,7 @@ pub fn convert_bits(
         (λ v. fit model to (typed model from v net.old a.now.bits))) }
 {
     let out = converted(alloc, net, model, from, to, a.bits.as_slice())?;
+    note_conversion(alloc, net, a.bits.as_slice(), &out);
     let bits = Seq::from_vec(out);
     Ok(Bits { bits })
 }
@@ -81,6 +82,7 @@ pub fn choose_bits(
         (λ v. cond (holds v net.old test) (number v net.old yes.now.bits) (number v net.old no.now.bits))) }
 {
     let out = choose(alloc, net, test, yes.bits.as_slice(), no.bits.as_slice())?;
+    net.note_choice(alloc, test, yes.bits.as_slice(), no.bits.as_slice(), &out);
     let bits = Seq::from_vec(out);
     Ok(Bits { bits })
 }

@@ -125,6 +125,7 @@ pub fn multiply(
     let overflow = exceeds(alloc, net, ty, a.len(), test, &size)?;
     size.truncate(a.len());
     let value = with_sign(alloc, net, test, &size)?;
+    net.note_product(alloc, a, b, &value);
     let bits = Seq::from_vec(value);
     Ok(Outcome {
         value: Bits { bits },

@@ -52,6 +52,7 @@ pub fn add(
     let never = not(net.yes());
     let mut total = sum(alloc, net, a, b, never)?;
     total.truncate(a.len());
+    net.note_combined(alloc, a, 1, b, &total);
     let left = sign(net, ty, a);
     let right = sign(net, ty, b);
     let made = sign(net, ty, &total);
@@ -84,6 +85,7 @@ pub fn subtract(
     let never = not(net.yes());
     let mut rest = difference(alloc, net, a, b)?;
     rest.truncate(a.len());
+    net.note_combined(alloc, a, u64::MAX, b, &rest);
     let left = sign(net, ty, a);
     let right = sign(net, ty, b);
     let made = sign(net, ty, &rest);
@@ -136,7 +138,11 @@ pub fn differ(
     ensures value { IfOk result (λ r. Means net.new r
         (λ v. not (int_eq (typed model ty v net.old a.now) (typed model ty v net.old b.now)))) }
 {
+    if let Some(equal) = net.known_equal(alloc, a, b) {
+        return Ok(not(equal));
+    }
     let apart = bitwise(alloc, net, Gate::Xor, a, b)?;
     let differ = any(net, &apart)?;
+    net.note_equal(alloc, a, b, not(differ));
     Ok(differ)
 }
