@@ -30,9 +30,9 @@ abbrev pub IsOver : List (List Bit) → List Term → Type 0
 IsOver words terms = AreBelow (2 * length words + 2) terms
 
 -- a polynomial over words gives a value modulo 2^width, under every input
-pub record Tells (net : List NetNode) (words : List (List Bit)) (width : ℕ) (terms : List Term) (is : (ℕ → Bool) → ℕ) : Type 0 where
+pub record Tells (net : List NetNode) (words : List (List Bit)) (width : ℕ) (terms : List Term) (told : (ℕ → Bool) → ℕ) : Type 0 where
   pub over : IsOver words terms
-  pub is : (v : ℕ → Bool) → Same width (value (unknown v net words) terms) (is v)
+  pub is : (v : ℕ → Bool) → Same width (value (unknown v net words) terms) (told v)
 
 -- at most 64 bits of the net, and a polynomial that tells their number
 pub record IsWord (net : List NetNode) (words : List (List Bit)) (w : Word) : Type 0 where
@@ -78,7 +78,7 @@ pub record Continues (old new : List Word) : Type 0 where
   pub is : new ≡ old ++ more
 
 -- a net, the number of its inputs, and true hints
-pub record IsSound (net : List NetNode) (counted : ℕ) (hints : Hints) : Type 0 where
+pub record IsSound (net : List NetNode) (counted : ℕ) (kept : Hints) : Type 0 where
   pub fine : IsNet net
   pub is : counted ≡ count_inputs net
-  pub hints : AreTrue net hints
+  pub hints : AreTrue net kept
