@@ -1,24 +1,31 @@
 -- What circuits let the hints know.
-use Rattle.std.proofs.Common.{◌≡◌, ℕ, ◌+◌, ◌-◌, ◌*◌, ◌%◌, ◌^◌, ◌<◌, ◌≤◌, Bool, true, false, cond, not, nat_eq, bit_xor, List, take, length, refl, sym, ◌∙◌, ap, subst, arith}
-use Rattle.std.proofs.Math.Pow.{mod-mod-pow}
+use Rattle.std.proofs.Common.{◌≡◌, ℕ, ◌+◌, ◌-◌, ◌*◌, ◌%◌, ◌^◌, ◌<◌, ◌≤◌, Bool, true, false, cond, not, ◌&&◌, nat_eq, ℤ, ◌+ℤ◌, ◌-ℤ◌, ◌*ℤ◌, List, length, sym, ◌∙◌, ap, subst, arith}
 use Rattle.std.proofs.lemmas.Nat.{pow-add, pow_pos, mod_below}
 use Rattle.std.specs.Ordering.{int_eq}
-use Rattle.c_core.specs.Types.{width_of, is_signed}
+use Rattle.c_core.specs.Types.{width_of, is_signed, promote_of, in_range, residue, fit}
+use Rattle.c_core.specs.Operators.{apply_of, exact}
 use Rattle.c_core.specs.declared.number.DataModel.{DataModel}
 use Rattle.c_core.specs.declared.number.IntType.{IntType}
+use Rattle.c_core.specs.declared.number.BinOp.TheVariants.{Add, Sub, Mul}
+use Rattle.c_core.specs.declared.number.Done.TheVariants.{Value, Overflow}
 use Rattle.polynomials.specs.Values.{Same}
 use Rattle.polynomials.proofs.Sameness.{same_refl, same_by, same_sym, same_trans, same_add, same_mod, same_whole, same_cancel}
 use Rattle.circuits.specs.declared.net.Bit.{Bit}
 use Rattle.circuits.specs.declared.net.NetNode.{NetNode}
+use Rattle.circuits.specs.declared.bits.Outcome.{Outcome}
 use Rattle.circuits.specs.Net.{holds, xor, Grown, Means, IsIn}
 use Rattle.circuits.specs.Numbers.{number, typed, AreIn, AreTyped, Counts}
 use Rattle.circuits.specs.Gates.{negative, size}
+use Rattle.circuits.specs.Outcome.{Gives, HasValue}
 use Rattle.circuits.specs.Words.{AreOperands}
-use Rattle.circuits.proofs.Nets.{stays, means_by, opp}
-use Rattle.circuits.proofs.Counting.{number_lt, number_stays, are_in_later}
-use Rattle.circuits.proofs.Carrying.{counts_lt, low_counts, counts_same, number_low}
-use Rattle.circuits.proofs.Reading.{equal_read, read_equal}
+use Rattle.circuits.proofs.Nets.{stays, means_by}
+use Rattle.circuits.proofs.Counting.{number_stays, are_in_later}
+use Rattle.circuits.proofs.Carrying.{counts_lt, counts_same}
+use Rattle.circuits.proofs.Reading.{equal_read, residue_read, residue_sum, residue_difference}
+use Rattle.circuits.proofs.Sizes.{signed_number, read_size, signed_mul, residue_size}
+use Rattle.circuits.proofs.Judged.{fit_is}
 use Rattle.circuits.proofs.Compared.{not_not}
+use Rattle.circuits.proofs.Converted.{residue_lt}
 use Rattle.circuits.proofs.Multiplied.{width_few}
 use Rattle.circuits.proofs.Summed.{typed_counts}
 
@@ -34,13 +41,36 @@ pub low_noted : {net : List NetNode} {out : List Bit} {w : ℕ} {f : (ℕ → Bo
     → (v : ℕ → Bool) → Same (length out) (number v net out) (g v)
 low_noted {net} {out} {w} {f} g c e v = subst (λ (k : ℕ). Same k (number v net out) (g v)) (sym c.wide) (same_trans (same_by (c.is v)) (e v))
 
+judged_value : (b : Bool) (f z : ℤ) → HasValue (cond b (Overflow f) (Value f)) z → z ≡ f
+judged_value true f z h = h
+judged_value false f z h = h
+
+-- the number of what an operator gives
+pub given_counts : {m : DataModel} {ty : IntType} {net : List NetNode} {o : Outcome} {out : List Bit} (r : (ℕ → Bool) → ℤ) → promote_of ty ≡ ty → Gives m ty net o (λ v. exact m ty (r v)) → out ≡ o.value.bits
+    → Counts net out (width_of m ty) (λ v. residue (width_of m ty) (r v))
+given_counts {m} {ty} {net} {o} {out} r p g e =
+    let w = width_of m ty in
+    let s = is_signed ty in
+    let bits = o.value.bits in
+    counts_same e (record {
+      inside = g.value.inside;
+      wide = g.value.wide;
+      is = λ v.
+          sym (residue_read w s (number v net bits) (counts_lt (typed_counts g.value) v))
+          ∙ ap (residue w) (judged_value (s && not (in_range m ty (r v))) (fit m ty (r v)) (typed m ty v net bits) (g.value_is v) ∙ fit_is m ty (r v) p)
+          ∙ residue_read w s (residue w (r v)) (residue_lt w (r v));
+    })
+
 -- ---- sums and differences
-pub sum_noted : {old mid : List NetNode} {out : List Bit} {most w : ℕ} (a b : List Bit) → Grown most old mid → AreIn old a → AreIn old b
-    → Counts mid out w (λ v. (number v old a + number v old b) % 2 ^ w)
+pub sum_noted : {m : DataModel} {ty : IntType} {old mid : List NetNode} {o : Outcome} {out : List Bit} {most : ℕ} (a b : List Bit) → promote_of ty ≡ ty → Grown most old mid → AreTyped m ty old a → AreTyped m ty old b
+    → Gives m ty mid o (λ v. apply_of m Add ty (typed m ty v old a) (typed m ty v old b)) → out ≡ o.value.bits
     → (v : ℕ → Bool) → Same (length out) (number v mid out) (number v mid a + 1 * number v mid b)
-sum_noted {old} {mid} {out} {most} {w} a b g ha hb c =
-    low_noted (λ v. number v mid a + 1 * number v mid b) c
-    (λ v. same_trans (same_mod w (number v old a + number v old b)) (same_by (omega (arith, number_stays v most old mid a g ha, number_stays v most old mid b g hb))))
+sum_noted {m} {ty} {old} {mid} {o} {out} {most} a b p g ha hb given e =
+    let w = width_of m ty in
+    low_noted (λ v. number v mid a + 1 * number v mid b) (given_counts (λ v. typed m ty v old a +ℤ typed m ty v old b) p given e)
+    (λ v. same_trans (same_by (residue_sum w (is_signed ty) (number v old a) (number v old b) (counts_lt (typed_counts ha) v) (counts_lt (typed_counts hb) v)))
+    (same_trans (same_mod w (number v old a + number v old b))
+    (same_by (omega (arith, number_stays v most old mid a g ha.inside, number_stays v most old mid b g hb.inside)))))
 
 wraps : (w m n : ℕ) → w ≤ 64 → n < 2 ^ w → Same w (m + (2 ^ w - n)) (m + 18446744073709551615 * n)
 wraps w m n h l =
@@ -49,14 +79,16 @@ wraps w m n h l =
     let right : m + 18446744073709551615 * n + n ≡ m + 2 ^ (64 - w) * n * 2 ^ w = omega (arith, ap (λ k. k * n) p) in
     same_cancel {k = n} (same_trans (same_by left) (same_trans (same_add (same_refl w m) (same_trans (same_whole w 1) (same_sym (same_whole w (2 ^ (64 - w) * n))))) (same_by (sym right))))
 
-pub difference_noted : {old mid : List NetNode} {out : List Bit} {most w : ℕ} (a b : List Bit) → Grown most old mid → AreIn old a → AreIn old b → length b ≡ w → w ≤ 64
-    → Counts mid out w (λ v. (number v old a + (2 ^ w - number v old b)) % 2 ^ w)
+pub difference_noted : {m : DataModel} {ty : IntType} {old mid : List NetNode} {o : Outcome} {out : List Bit} {most : ℕ} (a b : List Bit) → promote_of ty ≡ ty → Grown most old mid → AreTyped m ty old a → AreTyped m ty old b
+    → Gives m ty mid o (λ v. apply_of m Sub ty (typed m ty v old a) (typed m ty v old b)) → out ≡ o.value.bits
     → (v : ℕ → Bool) → Same (length out) (number v mid out) (number v mid a + 18446744073709551615 * number v mid b)
-difference_noted {old} {mid} {out} {most} {w} a b g ha hb l few c =
-    low_noted (λ v. number v mid a + 18446744073709551615 * number v mid b) c
-    (λ v. same_trans (same_mod w (number v old a + (2 ^ w - number v old b)))
-    (same_trans (wraps w (number v old a) (number v old b) few (subst (λ (k : ℕ). number v old b < 2 ^ k) l (number_lt v old b)))
-    (same_by (omega (arith, number_stays v most old mid a g ha, number_stays v most old mid b g hb)))))
+difference_noted {m} {ty} {old} {mid} {o} {out} {most} a b p g ha hb given e =
+    let w = width_of m ty in
+    low_noted (λ v. number v mid a + 18446744073709551615 * number v mid b) (given_counts (λ v. typed m ty v old a -ℤ typed m ty v old b) p given e)
+    (λ v. same_trans (same_by (residue_difference w (is_signed ty) (number v old a) (number v old b) (counts_lt (typed_counts ha) v) (counts_lt (typed_counts hb) v)))
+    (same_trans (same_mod w (number v old a + (2 ^ w - number v old b)))
+    (same_trans (wraps w (number v old a) (number v old b) (width_few m ty) (counts_lt (typed_counts hb) v))
+    (same_by (omega (arith, number_stays v most old mid a g ha.inside, number_stays v most old mid b g hb.inside))))))
 
 -- ---- products
 turned_same : (w q x k : ℕ) → q + x ≡ k * 2 ^ w → Same w ((2 ^ w - q % 2 ^ w) % 2 ^ w) x
@@ -85,16 +117,24 @@ product_same w m n false true hm hn =
     let e : 2 ^ w - n + n ≡ 2 ^ w = omega arith in
     turned_same w (m * (2 ^ w - n)) (m * n) m (let f : m * (2 ^ w - n) + m * n ≡ m * (2 ^ w - n + n) = omega arith in f ∙ ap (λ k. m * k) e)
 
-pub product_noted : {m : DataModel} {ty : IntType} {old mid : List NetNode} {out : List Bit} {most : ℕ} (a b : List Bit) → Grown most old mid → AreTyped m ty old a → AreTyped m ty old b
-    → Counts mid out (width_of m ty) (λ v. cond (xor (negative (width_of m ty) (is_signed ty) (number v old a)) (negative (width_of m ty) (is_signed ty) (number v old b)))
-    ((2 ^ width_of m ty - size (width_of m ty) (is_signed ty) (number v old a) * size (width_of m ty) (is_signed ty) (number v old b) % 2 ^ width_of m ty) % 2 ^ width_of m ty)
-    (size (width_of m ty) (is_signed ty) (number v old a) * size (width_of m ty) (is_signed ty) (number v old b) % 2 ^ width_of m ty))
+pub product_noted : {m : DataModel} {ty : IntType} {old mid : List NetNode} {o : Outcome} {out : List Bit} {most : ℕ} (a b : List Bit) → promote_of ty ≡ ty → Grown most old mid → AreTyped m ty old a → AreTyped m ty old b
+    → Gives m ty mid o (λ v. apply_of m Mul ty (typed m ty v old a) (typed m ty v old b)) → out ≡ o.value.bits
     → (v : ℕ → Bool) → Same (length out) (number v mid out) (number v mid a * number v mid b)
-product_noted {m} {ty} {old} {mid} {out} {most} a b g ha hb c =
+product_noted {m} {ty} {old} {mid} {o} {out} {most} a b p g ha hb given e =
     let w = width_of m ty in
-    low_noted (λ v. number v mid a * number v mid b) c
-    (λ v. same_trans (product_same w (number v old a) (number v old b) (negative w (is_signed ty) (number v old a)) (negative w (is_signed ty) (number v old b)) (counts_lt (typed_counts ha) v) (counts_lt (typed_counts hb) v))
-    (same_by (ap (λ k. k * number v old b) (sym (number_stays v most old mid a g ha.inside)) ∙ ap (λ k. number v mid a * k) (sym (number_stays v most old mid b g hb.inside)))))
+    let s = is_signed ty in
+    low_noted (λ v. number v mid a * number v mid b) (given_counts (λ v. typed m ty v old a *ℤ typed m ty v old b) p given e) (λ v.
+    let la : number v old a < 2 ^ w = counts_lt (typed_counts ha) v in
+    let lb : number v old b < 2 ^ w = counts_lt (typed_counts hb) v in
+    let na = negative w s (number v old a) in
+    let nb = negative w s (number v old b) in
+    let is : typed m ty v old a *ℤ typed m ty v old b ≡ signed_number (xor na nb) (size w s (number v old a) * size w s (number v old b)) =
+    ap (λ x. x *ℤ typed m ty v old b) (read_size w s (number v old a) la)
+    ∙ ap (λ y. signed_number na (size w s (number v old a)) *ℤ y) (read_size w s (number v old b) lb)
+    ∙ signed_mul na nb (size w s (number v old a)) (size w s (number v old b)) in
+    same_trans (same_by (ap (residue w) is ∙ residue_size w (xor na nb) (size w s (number v old a) * size w s (number v old b))))
+    (same_trans (product_same w (number v old a) (number v old b) na nb la lb)
+    (same_by (ap (λ k. k * number v old b) (sym (number_stays v most old mid a g ha.inside)) ∙ ap (λ k. number v mid a * k) (sym (number_stays v most old mid b g hb.inside))))))
 
 -- ---- choices and cuts
 pub choice_noted : {old mid : List NetNode} {out : List Bit} {t : Bit} {most n : ℕ} (yes no : List Bit) → Grown most old mid → IsIn old t → AreIn old yes → AreIn old no
