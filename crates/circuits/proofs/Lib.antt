@@ -21,3 +21,4 @@ pub mod Moved
 pub mod Placed
 pub mod Feeding
 pub mod WordLaws
+pub mod Unknowns
