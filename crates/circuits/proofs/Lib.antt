@@ -23,3 +23,4 @@ pub mod Feeding
 pub mod WordLaws
 pub mod Sound
 pub mod Noted
+pub mod Unknowns
