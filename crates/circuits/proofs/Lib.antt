@@ -20,3 +20,4 @@ pub mod Raising
 pub mod Moved
 pub mod Placed
 pub mod Feeding
+pub mod WordLaws

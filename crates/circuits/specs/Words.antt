@@ -1,5 +1,5 @@
 -- The words of a net: lists of its bits with polynomials that tell their numbers, and bits that tell where polynomials are 0.
-use Rattle.std.specs.Prelude.{◌≡◌, ℕ, ◌+◌, ◌*◌, ◌-◌, ◌/◌, ◌%◌, ◌^◌, ◌≤◌, Bool, true, nat_eq, cond, List, [], ◌∷◌, ◌++◌, length, map, get_or}
+use Rattle.std.specs.Prelude.{◌≡◌, ℕ, ◌+◌, ◌*◌, ◌/◌, ◌%◌, ◌^◌, ◌≤◌, Bool, true, nat_eq, cond, List, [], ◌∷◌, ◌++◌, length, map, get_or}
 use Rattle.std.specs.List.{All}
 use Rattle.polynomials.specs.Values.{AreBelow, Same, value}
 use Rattle.polynomials.specs.declared.polynomial.Term.{Term}
@@ -16,10 +16,10 @@ abbrev pub lowest : (ℕ → Bool) → List NetNode → List Bit → ℕ
 lowest v net [] = 0
 lowest v net (b ∷ bs) = digit (holds v net b)
 
--- what unknowns stand for under an input: 2i + 2 for the number of word i, 2i + 3 for its lowest digit alone
+-- what unknowns stand for under an input: 2i + 2 for the number of word i, 2i + 3 for its lowest digit alone, others for 0
 unfoldable pub unknown : (ℕ → Bool) → List NetNode → List (List Bit) → ℕ → ℕ
 unknown v net words x =
-    let word : List Bit = get_or words (x / 2 - 1) [] in
+    let word : List Bit = get_or ([] ∷ words) (x / 2) [] in
     cond (nat_eq (x % 2) 1) (lowest v net word) (number v net word)
 
 abbrev pub bits_of : List Word → List (List Bit)

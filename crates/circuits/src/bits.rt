@@ -58,7 +58,6 @@ pub fn convert_bits(
         (λ v. fit model to (typed model from v net.old a.now.bits))) }
 {
     let out = converted(alloc, net, model, from, to, a.bits.as_slice())?;
-    note_conversion(alloc, net, a.bits.as_slice(), &out);
     let bits = Seq::from_vec(out);
     Ok(Bits { bits })
 }

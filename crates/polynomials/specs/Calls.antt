@@ -1,5 +1,5 @@
 -- What the calls on factors and polynomials give, and why they refuse.
-use Rattle.std.specs.Prelude.{◌≡◌, ℕ, ◌+◌, ◌*◌, ◌<◌, ◌⊎◌, List, length}
+use Rattle.std.specs.Prelude.{◌≡◌, ℕ, ◌+◌, ◌*◌, ◌<◌, ◌≤◌, ◌⊎◌, List, length}
 use Rattle.std.specs.List.{All, Any}
 use Rattle.polynomials.specs.declared.polynomial.Term.{Term}
 use Rattle.polynomials.specs.Values.{Same, AreTruths, product_of, value, degree, AreFactorsBelow, AreBelow}
@@ -8,6 +8,7 @@ use Rattle.polynomials.specs.Values.{Same, AreTruths, product_of, value, degree,
 pub record IsProduct (a b r : List ℕ) : Type 0 where
   pub is : (v : ℕ → ℕ) → AreTruths v → product_of v r ≡ product_of v a * product_of v b
   pub within : (n : ℕ) → AreFactorsBelow n a → AreFactorsBelow n b → AreFactorsBelow n r
+  pub few : degree r ≤ degree a + degree b
 
 -- the factors that b lacks to be a
 pub record IsQuotient (a b r : List ℕ) : Type 0 where

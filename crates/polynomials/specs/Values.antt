@@ -1,5 +1,5 @@
 -- What polynomials over numbered unknowns are worth.
-use Rattle.std.specs.Prelude.{◌≡◌, ℕ, zero, suc, ◌+◌, ◌*◌, ◌^◌, ◌%◌, ◌<◌, ◌≤◌, nat_lt, count_by, List, [], ◌∷◌}
+use Rattle.std.specs.Prelude.{◌≡◌, ℕ, zero, suc, ◌*◌, ◌^◌, ◌%◌, ◌<◌, ◌≤◌, nat_lt, count_by, sum_by, List, [], ◌∷◌}
 use Rattle.std.specs.List.{All}
 use Rattle.polynomials.specs.declared.polynomial.Term.{Term}
 
@@ -22,9 +22,8 @@ product_of v [] = 1
 product_of v (x ∷ xs) = factor v x * product_of v xs
 
 -- the sum of some terms
-unfoldable pub value : (ℕ → ℕ) → List Term → ℕ
-value v [] = 0
-value v (t ∷ ts) = t.coefficient * product_of v t.factors + value v ts
+abbrev pub value : (ℕ → ℕ) → List Term → ℕ
+value v terms = sum_by (λ t. t.coefficient * product_of v t.factors) terms
 
 -- each factor is below n
 abbrev pub AreFactorsBelow : ℕ → List ℕ → Type 0

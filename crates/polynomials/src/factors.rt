@@ -1,5 +1,6 @@
 // Products of unknowns.
-ghost use Rattle.std.specs.Prelude.{◌≡◌, ℕ, ◌+◌, ◌<◌, ◌∷◌, [], MatchOption, IfSome};
+ghost use Rattle.std.specs.Prelude.{◌≡◌, ℕ, ◌+◌, ◌<◌, ◌∷◌, [], MatchOption, IfSome, MatchBool};
+ghost use Rattle.polynomials.specs.Values.{degree};
 ghost use Rattle.polynomials.specs.Calls.{IsProduct, IsQuotient, IsTooHigh};
 
 /// So many factors a product may have.
@@ -69,4 +70,16 @@ pub fn exceeds(a: Factors, b: Factors) -> bool {
         }
     }
     false
+}
+
+/// Whether there is no unknown among the factors.
+pub fn is_one(factors: Factors) -> bool
+    ensures { MatchBool result (degree factors ≡ 0) (0 < degree factors) }
+{
+    for i in 0..MOST_FACTORS {
+        if factors[i] != 0 {
+            return false;
+        }
+    }
+    true
 }

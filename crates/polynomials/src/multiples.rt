@@ -1,5 +1,6 @@
 // Sums, differences, multiples and products of polynomials.
-ghost use Rattle.std.specs.Prelude.{◌≤◌, IfOk, MatchOption, OnFalse, IsTrue};
+ghost use Rattle.std.specs.Prelude.{◌+◌, ◌≤◌, IfOk, MatchOption, IsTrue, length};
+ghost use Rattle.std.specs.Bool.{OnFalse};
 ghost use Rattle.polynomials.specs.Calls.{IsWithMultiple, Multiplies, MultipleIsTooMuch, ProductIsTooMuch};
 
 use crate::Polynomial;

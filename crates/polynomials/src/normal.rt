@@ -14,9 +14,10 @@ impl Polynomial {
     {
         let odd = self.odd_part();
         let inverse = inverse_of(odd);
-        if masked(width, odd.wrapping_mul(inverse)) == 1 {
-            self.scale(width, inverse);
+        if masked(width, odd.wrapping_mul(inverse)) != 1 {
+            return;
         }
+        self.scale(width, inverse);
     }
 
     // the odd part of the first coefficient with the fewest factors 2

@@ -1,9 +1,11 @@
 // Polynomials as lists of terms.
-ghost use Rattle.std.specs.Prelude.{◌≡◌, ℕ, ◌+◌, ◌≤◌, ◌<◌, ◌^◌, ◌↔◌, ◌∷◌, [], IfOk, IfErr, MatchOption, OnFalse, IsTrue, length};
+ghost use Rattle.std.specs.Prelude.{◌≡◌, ℕ, ◌+◌, ◌≤◌, ◌<◌, ◌↔◌, [], IfOk, MatchOption, IsTrue, length, slice_index_or};
+ghost use Rattle.std.specs.Bool.{OnFalse};
+ghost use Rattle.polynomials.specs.declared.polynomial.Term.{Term};
 ghost use Rattle.polynomials.specs.Values.{AreBelow, value, factor, Same};
 ghost use Rattle.polynomials.specs.Calls.{IsWithTerm, IsScaled, IsConstant, HasUnknowns};
 
-use crate::factors::{Factors, exceeds};
+use crate::factors::{Factors, exceeds, is_one};
 use crate::words::masked;
 use std::alloc::Global;
 use std::marker::Model;
@@ -139,16 +141,18 @@ impl Polynomial {
     fn merge(&mut self, width: u32, place: usize, coefficient: u64)
         requires narrow { width ≤ 64 }
         requires inside { place < length self.old }
-        ensures merged { (factors : List ℕ) (d : Term) → (slice_index_or self.old place d).factors ≡ factors → IsWithTerm width self.old coefficient factors self.new }
+        ensures merged { (d : Term) → IsWithTerm width self.old coefficient (slice_index_or self.old place d).factors self.new }
+        ensures grown { length self.new ≤ length self.old }
     {
-        let sum = masked(
-            width,
-            self.terms[place].coefficient.wrapping_add(coefficient),
-        );
-        if sum == 0 {
+        let term = self.terms[place];
+        let coefficient = masked(width, term.coefficient.wrapping_add(coefficient));
+        if coefficient == 0 {
             self.terms.remove(place);
         } else {
-            self.terms[place].coefficient = sum;
+            self.terms[place] = Term {
+                coefficient,
+                factors: term.factors,
+            };
         }
     }
 
@@ -158,8 +162,12 @@ impl Polynomial {
         ensures { IsScaled width self.old by self.new }
     {
         for i in 0..self.terms.len() {
-            let scaled = self.terms[i].coefficient.wrapping_mul(by);
-            self.terms[i].coefficient = masked(width, scaled);
+            let term = self.terms[i];
+            let coefficient = masked(width, term.coefficient.wrapping_mul(by));
+            self.terms[i] = Term {
+                coefficient,
+                factors: term.factors,
+            };
         }
     }
 
@@ -170,7 +178,7 @@ impl Polynomial {
         let mut sum = 0u64;
         for i in 0..self.terms.len() {
             let term = self.terms[i];
-            if term.factors != [0; 6] {
+            if !is_one(term.factors) {
                 return None;
             }
             sum = sum.wrapping_add(term.coefficient);
