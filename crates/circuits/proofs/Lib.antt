@@ -21,3 +21,5 @@ pub mod Moved
 pub mod Placed
 pub mod Feeding
 pub mod WordLaws
+pub mod Congruence
+pub mod HintLaws
