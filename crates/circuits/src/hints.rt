@@ -288,14 +288,13 @@ impl Hints {
     {
         let width = a.len() as u32;
         let difference = self.difference(alloc, nodes, a, b)?;
-        if let Some(constant) = difference.as_constant() {
-            return Some(Bit {
+        match difference.as_constant() {
+            Some(constant) => Some(Bit {
                 node: 0,
                 negated: cut(width, constant) != 0,
-            });
+            }),
+            None => self.zeros.find(width, &difference),
         }
-        let bit = self.zeros.find(width, &difference)?;
-        Some(bit)
     }
 
     /// A bit tells whether two numbers are equal.

@@ -3,6 +3,8 @@ use Rattle.circuits.proofs.hints.Hints.note_equal.Goals as goal
 
 pub returns-in-Some : goal.returns-in-Some
 returns-in-Some c = record {
-  words = c.in-Some.ensures.hints.words;
-  zeros = c.add.ensures _ _ c.in-Some.ensures.hints.zeros (zero_asked c.in-Some.ensures.asks c.requires.tells);
+  hints = record {
+    words = c.in-Some.ensures.hints.words;
+    zeros = c.add.ensures _ _ c.in-Some.ensures.hints.zeros (zero_asked c.in-Some.ensures.asks c.requires.tells);
+  };
 }
