@@ -23,3 +23,4 @@ pub mod Feeding
 pub mod WordLaws
 pub mod Congruence
 pub mod HintLaws
+pub mod Unknowns

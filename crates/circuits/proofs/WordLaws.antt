@@ -121,8 +121,8 @@ tells_later {net} {ws} {w} {p} {f} more h t = record {
 }
 
 -- ---- words
-pub words_in : {net : List NetNode} {words : List Word} → AreWords net words → AreAllIn net (bits_of words)
-words_in {net} {words} h =
+pub words_in : {net : List NetNode} (words : List Word) → AreWords net words → AreAllIn net (bits_of words)
+words_in {net} words h =
     All-map (λ bits. AreIn net bits) (λ w. w.bits.items) words
     (All-weaker (λ w. IsWord net (bits_of words) w) (λ w. AreIn net w.bits.items) (λ w i. i.inside) words h)
 
@@ -136,9 +136,9 @@ word_later {net} {ws} {w} more h i = record {
 pub word_more : {net : List NetNode} {ws : List (List Bit)} {w : Word} (more : List (List Bit)) → IsWord net ws w → IsWord net (ws ++ more) w
 word_more {net} {ws} {w} more i = record { inside = i.inside; wide = i.wide; tells = tells_more more i.tells }
 
-pub words_later : {net : List NetNode} {words : List Word} (more : List NetNode) → AreWords net words → AreWords (net ++ more) words
-words_later {net} {words} more h =
-    All-weaker (λ w. IsWord net (bits_of words) w) (λ w. IsWord (net ++ more) (bits_of words) w) (λ w i. word_later more (words_in h) i) words h
+pub words_later : {net : List NetNode} (words : List Word) (more : List NetNode) → AreWords net words → AreWords (net ++ more) words
+words_later {net} words more h =
+    All-weaker (λ w. IsWord net (bits_of words) w) (λ w. IsWord (net ++ more) (bits_of words) w) (λ w i. word_later more (words_in words h) i) words h
 
 pub bits_of-append : (a b : List Word) → bits_of (a ++ b) ≡ bits_of a ++ bits_of b
 bits_of-append a b = map-append (λ w. w.bits.items) a b
@@ -158,15 +158,18 @@ zero_more {net} {ws} {z} more i = record {
   is = λ v. ap (λ k. nat_eq (k % 2 ^ z.width) 0) (value_more v net ws more z.polynomial i.over) ∙ i.is v;
 }
 
-pub zeros_later : {net : List NetNode} {ws : List (List Bit)} {zeros : List Zero} (more : List NetNode) → AreAllIn net ws → AreZeros net ws zeros → AreZeros (net ++ more) ws zeros
-zeros_later {net} {ws} {zeros} more h a = All-weaker (λ z. IsZero net ws z) (λ z. IsZero (net ++ more) ws z) (λ z i. zero_later more h i) zeros a
+pub zeros_later : {net : List NetNode} {ws : List (List Bit)} (zeros : List Zero) (more : List NetNode) → AreAllIn net ws → AreZeros net ws zeros → AreZeros (net ++ more) ws zeros
+zeros_later {net} {ws} zeros more h a = All-weaker (λ z. IsZero net ws z) (λ z. IsZero (net ++ more) ws z) (λ z i. zero_later more h i) zeros a
 
-pub zeros_more : {net : List NetNode} {ws : List (List Bit)} {zeros : List Zero} (more : List (List Bit)) → AreZeros net ws zeros → AreZeros net (ws ++ more) zeros
-zeros_more {net} {ws} {zeros} more a = All-weaker (λ z. IsZero net ws z) (λ z. IsZero net (ws ++ more) z) (λ z i. zero_more more i) zeros a
+pub zeros_more : {net : List NetNode} {ws : List (List Bit)} (zeros : List Zero) (more : List (List Bit)) → AreZeros net ws zeros → AreZeros net (ws ++ more) zeros
+zeros_more {net} {ws} zeros more a = All-weaker (λ z. IsZero net ws z) (λ z. IsZero net (ws ++ more) z) (λ z i. zero_more more i) zeros a
 
 -- ---- all hints
 pub true_later : {net : List NetNode} {h : Hints} (more : List NetNode) → AreTrue net h → AreTrue (net ++ more) h
-true_later {net} {h} more t = record { words = words_later more t.words; zeros = zeros_later more (words_in t.words) t.zeros }
+true_later {net} {h} more t = record {
+  words = words_later h.words.list.items more t.words;
+  zeros = zeros_later h.zeros.list.items more (words_in h.words.list.items t.words) t.zeros;
+}
 
 -- ---- words behind those of before
 pub continues_not : (words : List Word) → Continues words words
@@ -182,5 +185,5 @@ pub tells_after : {net : List NetNode} {old new : List Word} {w : ℕ} {p : List
     → Tells net (bits_of old) w p f → Tells net (bits_of new) w p f
 tells_after {net} {old} {new} {w} {p} {f} c t = rw (bits_continue c) (tells_more (bits_of c.more) t)
 
-pub zeros_after : {net : List NetNode} {old new : List Word} {zeros : List Zero} → Continues old new → AreZeros net (bits_of old) zeros → AreZeros net (bits_of new) zeros
-zeros_after {net} {old} {new} {zeros} c a = rw (bits_continue c) (zeros_more (bits_of c.more) a)
+pub zeros_after : {net : List NetNode} {old new : List Word} (zeros : List Zero) → Continues old new → AreZeros net (bits_of old) zeros → AreZeros net (bits_of new) zeros
+zeros_after {net} {old} {new} zeros c a = rw (bits_continue c) (zeros_more zeros (bits_of c.more) a)

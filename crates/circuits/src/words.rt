@@ -1,5 +1,5 @@
 // Words: lists of bits whose numbers are known as polynomials.
-ghost use Rattle.std.specs.Prelude.{◌≡◌, ℕ, Bool, List, ◌≤◌, ◌++◌, ◌∷◌, [], IfSome, IsTrue, OnOk, OnErr, Some, length, slice_get};
+ghost use Rattle.std.specs.Prelude.{◌≡◌, ℕ, Bool, List, ◌<◌, ◌≤◌, ◌^◌, ◌++◌, ◌∷◌, [], IfSome, IsTrue, OnOk, OnErr, Some, length, slice_get};
 ghost use Rattle.circuits.specs.declared.net.NetNode.{NetNode};
 ghost use Rattle.circuits.specs.Net.{holds, IsIn, IsNet};
 ghost use Rattle.circuits.specs.Numbers.{digit, number, AreIn};
@@ -39,14 +39,15 @@ impl Words {
         }
     }
 
-    /// The word of these bits.
+    // the word of these bits
     fn find(&self, bits: &[Bit]) -> Option<usize>
-        ensures { IfSome result (λ at. Some bits.now ≡ slice_get (bits_of self.now.list.items) at) }
+        ensures few { IfSome result (λ at. at < 2 ^ 20) }
+        ensures found { IfSome result (λ at. Some bits.now ≡ slice_get (bits_of self.now.list.items) at) }
     {
         let hash = hash_of(bits);
         for step in 0..REACH {
             let number = self.places.number(hash, step);
-            if number == 0 {
+            if number == 0 || number > MOST_WORDS {
                 break;
             }
             if self.is_of(number - 1, bits) {
@@ -68,6 +69,7 @@ impl Words {
 
     // lets the last word be found
     fn put_last(&mut self)
+        requires { length self.old.list.items ≤ 2 ^ 20 }
         ensures { self.new.list ≡ self.old.list }
     {
         let count = self.list.len();
@@ -82,14 +84,15 @@ impl Words {
         }
     }
 
-    /// One more word. A refusal leaves all as it was.
-    pub fn add(
+    // one more word; a refusal leaves all as it was
+    fn add(
         &mut self,
         alloc: Global,
         nodes: &[NetNode],
         bits: &[Bit],
         polynomial: Polynomial,
     ) -> Result<(), OutOfMemory>
+        requires room { length self.old.list.items < 2 ^ 20 }
         requires words { AreWords nodes.now self.old.list.items }
         requires bits_in { AreIn nodes.now bits.now }
         requires wide { length bits.now ≤ 64 }
@@ -159,6 +162,7 @@ impl Words {
         requires wide { length bits.now ≤ 64 }
         ensures words { AreWords nodes.now self.new.list.items }
         ensures more { Continues self.old.list.items self.new.list.items }
+        ensures few { IfSome result (λ at. at < 2 ^ 20) }
         ensures own { IfSome result (λ at. Some bits.now ≡ slice_get (bits_of self.new.list.items) at) }
     {
         let at = self.list.len();

@@ -1,1 +1,4 @@
 pub mod Sameness
+pub mod Carrying
+pub mod Terms
+pub mod Summing

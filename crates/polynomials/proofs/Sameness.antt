@@ -43,12 +43,19 @@ same_whole w k =
     let e : k * 2 ^ w ≡ 0 + k * 2 ^ w = omega arith in
     record { is = ap (λ n. n % 2 ^ w) e ∙ add-mul-mod_self_right 0 k (2 ^ w) }
 
-pub same_cancel : {w a b k : ℕ} → Same w (a + k) (b + k) → Same w a b
-same_cancel {w} {a} {b} {k} p =
+one_more : (k m p : ℕ) → m ≡ p + 1 → k + k * p ≡ k * m
+one_more k m p e = omega (arith, ap (λ x. k * x) e)
+
+pub same_cancel : {w a b : ℕ} (k : ℕ) → Same w (a + k) (b + k) → Same w a b
+same_cancel {w} {a} {b} k p =
     let rest : ℕ = k * (2 ^ w - 1) in
-    let whole : k + rest ≡ k * 2 ^ w = omega (arith, pow_pos w) in
+    let whole : k + rest ≡ k * 2 ^ w = one_more k (2 ^ w) (2 ^ w - 1) (omega (arith, pow_pos w)) in
     let off : (n : ℕ) → Same w (n + k + rest) n = λ n.
     let first : n + k + rest ≡ n + k * 2 ^ w = omega (arith, whole) in
     let last : n + 0 ≡ n = omega arith in
     same_trans (same_by first) (same_trans (same_add (same_refl w n) (same_whole w k)) (same_by last)) in
     same_trans (same_sym (off a)) (same_trans (same_add p (same_refl w rest)) (off b))
+
+-- the same without a mask
+pub same_cut : {w a b : ℕ} → w ≤ 64 → b ≡ a % 2 ^ 64 → Same w b a
+same_cut {w} {a} {b} h e = same_trans (same_by e) (same_narrow h (same_mod 64 a))

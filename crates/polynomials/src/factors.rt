@@ -1,6 +1,6 @@
 // Products of unknowns.
 ghost use Rattle.std.specs.Prelude.{◌≡◌, ℕ, ◌+◌, ◌<◌, ◌∷◌, [], MatchOption, IfSome, MatchBool};
-ghost use Rattle.polynomials.specs.Values.{degree};
+ghost use Rattle.polynomials.specs.Values.{degree, AreFactorsBelow};
 ghost use Rattle.polynomials.specs.Calls.{IsProduct, IsQuotient, IsTooHigh};
 
 /// So many factors a product may have.
@@ -15,7 +15,10 @@ pub fn times(a: Factors, b: Factors) -> Option<Factors>
 {
     let mut product = a;
     for i in 0..MOST_FACTORS {
-        product = with_factor(product, b[i])?;
+        let Some(next) = with_factor(product, b[i]) else {
+            return None;
+        };
+        product = next;
     }
     Some(product)
 }
@@ -43,11 +46,16 @@ pub fn over(a: Factors, b: Factors) -> Option<Factors>
     ensures { IfSome result (λ r. IsQuotient a b r) }
 {
     let rest = lacking(a, b);
-    if times(rest, b)? == a { Some(rest) } else { None }
+    match times(rest, b) {
+        Some(product) if product == a => Some(rest),
+        _ => None,
+    }
 }
 
 // the factors of `a` without those of `b`, both in descending order
-fn lacking(a: Factors, b: Factors) -> Factors {
+fn lacking(a: Factors, b: Factors) -> Factors
+    ensures { (n : ℕ) → AreFactorsBelow n a → AreFactorsBelow n result }
+{
     let mut rest = [0; 6];
     let mut passed = 0;
     let mut kept = 0;

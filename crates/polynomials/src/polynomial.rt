@@ -145,13 +145,14 @@ impl Polynomial {
         ensures grown { length self.new ≤ length self.old }
     {
         let term = self.terms[place];
+        let factors = term.factors;
         let coefficient = masked(width, term.coefficient.wrapping_add(coefficient));
         if coefficient == 0 {
             self.terms.remove(place);
         } else {
             self.terms[place] = Term {
                 coefficient,
-                factors: term.factors,
+                factors,
             };
         }
     }
@@ -164,9 +165,10 @@ impl Polynomial {
         for i in 0..self.terms.len() {
             let term = self.terms[i];
             let coefficient = masked(width, term.coefficient.wrapping_mul(by));
+            let factors = term.factors;
             self.terms[i] = Term {
                 coefficient,
-                factors: term.factors,
+                factors,
             };
         }
     }
