@@ -23,4 +23,6 @@ pub mod Feeding
 pub mod WordLaws
 pub mod Sound
 pub mod Noted
+pub mod Congruence
+pub mod HintLaws
 pub mod Unknowns
