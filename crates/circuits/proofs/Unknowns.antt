@@ -1,15 +1,19 @@
 -- Unknowns that stand for words, and bits whose number needs none.
-use Rattle.std.proofs.Common.{◌≡◌, ℕ, zero, suc, ◌+◌, ◌*◌, ◌-◌, ◌/◌, ◌%◌, ◌^◌, ◌<◌, ◌≤◌, nat_eq, cond, Bool, true, false, not, Option, Some, None, Result, Ok, Err, List, [], ◌∷◌, ◌++◌, length, get_or, take, map, slice_get, bit_or, refl, sym, ◌∙◌, ap, subst, arith, add-one, length-append}
+use Rattle.std.proofs.Common.{◌≡◌, ℕ, zero, suc, ◌+◌, ◌*◌, ◌-◌, ◌/◌, ◌%◌, ◌^◌, ◌<◌, ◌≤◌, nat_eq, cond, Bool, true, false, not, ◌&&◌, Option, Some, None, Result, Ok, Err, List, [], ◌∷◌, ◌++◌, length, get_or, take, map, slice_get, bit_or, refl, sym, ◌∙◌, ap, subst, arith, add-one, length-append}
 use Rattle.std.specs.List.{All}
 use Rattle.std.proofs.lemmas.List.{take_more, take_all, length-take-le, length-map, get_or-map}
 use Rattle.std.proofs.lemmas.List.Elements.{All-push, All-weaker, All-get_or, All-from_recursion, All-head, All-tail}
 use Rattle.std.proofs.lemmas.Option.{get_or_from_slice_get, slice_get_within, slice_get-map}
 use Rattle.std.proofs.lemmas.Nat.{or_block, one_shl, pow_pos}
 use Rattle.std.proofs.Math.Nat.{pow-suc}
+use Rattle.std.proofs.Math.Bool.{beq}
+use Rattle.std.proofs.lemmas.Bool.Decides.{Decides-and, Decides-eqb, Decides-like}
+use Rattle.std.specs.Bool.{Decides}
+use Rattle.std.specs.Cmp.{booleans_Decides}
 use Rattle.std.specs.Int.Bits.{or_zero_r}
 use Rattle.std.specs.Option.{option_map, IfSome}
 use Rattle.std.specs.Result.{result_ok, IfOk, OnOk}
-use Rattle.polynomials.specs.Values.{AreBelow, AreTruths, Same, factor, product_of, value}
+use Rattle.polynomials.specs.Values.{AreBelow, AreFactorsBelow, AreTruths, Same, factor, product_of, value}
 use Rattle.polynomials.specs.Calls.{IsWithMultiple}
 use Rattle.polynomials.specs.declared.polynomial.Term.{Term}
 use Rattle.polynomials.proofs.Sameness.{same_add, same_by, same_mul, same_narrow, same_refl, same_trans}
@@ -228,6 +232,21 @@ tells_known {net} words {bits} at d h e =
     let same : (get_or words at d).bits.items ≡ bits = sym (get_or-map (λ w. w.bits.items) words at d [] lt) ∙ word_at (bits_of words) at e in
     subst (λ (b : List Bit). Tells net (bits_of words) (length b) (get_or words at d).polynomial (λ v. number v net b)) same found.tells
 
+-- of a copy
+pub tells_copied : {net : List NetNode} {p : List Term} (words : List Word) {bits : List Bit} (at : ℕ) (w : Word) → w ≡ get_or words at w → AreWords net words → Some bits ≡ slice_get (bits_of words) at
+    → p ≡ w.polynomial → Tells net (bits_of words) (length bits) p (λ v. number v net bits)
+tells_copied {net} {p} words {bits} at w f h e g =
+    let same : get_or words at w ≡ w = sym f in
+    subst (λ (q : List Term). Tells net (bits_of words) (length bits) q (λ v. number v net bits)) (ap (λ (x : Word). x.polynomial) same ∙ sym g) (tells_known words at w h e)
+
+same_bit : (a b : Bit) → (a.node ≡ b.node) × (a.negated ≡ b.negated) → a ≡ b
+same_bit a b e = ap (λ n. record { node = n; negated = a.negated }) e.0 ∙ ap (λ n. record { node = b.node; negated = n }) e.1
+
+pub bits_decide : (a b : Bit) → Decides (nat_eq a.node b.node && beq a.negated b.negated) (a ≡ b)
+bits_decide a b =
+    Decides-like _ (same_bit a b) (λ e. (ap (λ (x : Bit). x.node) e, ap (λ (x : Bit). x.negated) e))
+    (Decides-and (nat_eq a.node b.node) (beq a.negated b.negated) (Decides-eqb a.node b.node) (booleans_Decides a.negated b.negated))
+
 pub found_word : (words : List Word) (w : Word) (bits : List Bit) (at : ℕ) → slice_get words at ≡ Some w → w.bits.items ≡ bits → Some bits ≡ slice_get (bits_of words) at
 found_word words w bits at e f = sym (slice_get-map (λ w. w.bits.items) words at ∙ ap (option_map (λ w. w.bits.items)) e ∙ ap Some f)
 
@@ -263,11 +282,14 @@ pub tells_negated : {net : List NetNode} {ws : List (List Bit)} {p : List Term} 
     → Tells net ws 64 p (λ v. digit (holds v net (opposite b)))
 tells_negated {net} {ws} {p} b e t = subst (λ (n : Bool). Tells net ws 64 p (λ v. digit (holds v net (record { node = b.node; negated = n })))) (sym (ap not e)) t
 
+zeros_below : (n : ℕ) → 0 < n → AreFactorsBelow n (0 ∷ 0 ∷ 0 ∷ 0 ∷ 0 ∷ 0 ∷ [])
+zeros_below n h = All-from_recursion (λ x. x < n) (0 ∷ 0 ∷ 0 ∷ 0 ∷ 0 ∷ 0 ∷ []) (h, (h, (h, (h, (h, (h, tt))))))
+
 -- 1 less the opposite
 pub tells_opposite : {net : List NetNode} (ws : List (List Bit)) (b : Bit) (p old new : List Term) → IsNumber 1 old → Tells net ws 64 p (λ v. digit (holds v net (opposite b)))
     → IsWithMultiple 64 old 18446744073709551615 (0 ∷ 0 ∷ 0 ∷ 0 ∷ 0 ∷ 0 ∷ []) p new → Tells net ws 64 new (λ v. digit (holds v net b))
 tells_opposite {net} ws b p old new n t m = record {
-  over = m.within (2 * length ws + 2) (n.within (2 * length ws + 2) (omega arith)) (All-from_recursion (λ x. x < 2 * length ws + 2) (0 ∷ 0 ∷ 0 ∷ 0 ∷ 0 ∷ 0 ∷ []) (omega arith, omega arith, omega arith, omega arith, omega arith, omega arith, tt)) t.over;
+  over = m.within (2 * length ws + 2) (n.within (2 * length ws + 2) (omega arith)) (zeros_below (2 * length ws + 2) (omega arith)) t.over;
   is = λ v.
     let u : ℕ → ℕ = unknown v net ws in
     let rest : Same 64 (18446744073709551615 * product_of u (0 ∷ 0 ∷ 0 ∷ 0 ∷ 0 ∷ 0 ∷ []) * value u p) (18446744073709551615 * 1 * digit (not (holds v net b))) =

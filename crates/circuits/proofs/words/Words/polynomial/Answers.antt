@@ -1,8 +1,8 @@
-use Rattle.std.proofs.Common.{◌≡◌, ◌+◌, ◌*◌, length, sym}
+use Rattle.std.proofs.Common.{◌≡◌, ◌+◌, ◌*◌, length, arith, sym}
 use Rattle.polynomials.proofs.Sameness.{same_by}
 use Rattle.circuits.specs.Numbers.{number}
 use Rattle.circuits.proofs.WordLaws.{tells_by, tells_narrower}
-use Rattle.circuits.proofs.Unknowns.{IsNumber, IsUnknown, number_some, copy_some, unknown_some, some_weaker, place_of_word, tells_constant, tells_known, tells_number}
+use Rattle.circuits.proofs.Unknowns.{IsNumber, IsUnknown, number_some, copy_some, unknown_some, some_weaker, place_of_word, tells_constant, tells_copied, tells_number}
 use Rattle.circuits.proofs.words.Words.polynomial.Goals as goal
 
 pub truth-requires-clause-bit_in : goal.truth-requires-clause-bit_in
@@ -20,10 +20,12 @@ returns-in-Some-constant_of-clause-tells c =
     (λ p n. tells_narrower (length c.args.bits.now) c.requires.wide (tells_constant _ _ n (λ v. c.in-Some-constant_of.ensures c.args.nodes.now c.requires.net v)))
 
 pub index-requires : goal.index-requires
-index-requires c = place_of_word c.args.self.now.list.items _ c.in-Some-find.ensures.found
+index-requires c = omega (arith, place_of_word c.args.self.now.list.items _ c.in-Some-find.ensures.found)
 
 pub returns-in-Some-find-clause-tells : goal.returns-in-Some-find-clause-tells
-returns-in-Some-find-clause-tells c = ?
+returns-in-Some-find-clause-tells c =
+    some_weaker (λ p. p ≡ c.index.result.now.polynomial) _ _ (copy_some _ _ _ c.ok-in-Some-find.ensures.value c.copy.ensures)
+    (λ p e. tells_copied c.args.self.now.list.items c.in-Some-find.at c.index.result.now c.index.ensures c.requires.words c.in-Some-find.ensures.found e)
 
 pub returns-clause-tells : goal.returns-clause-tells
 returns-clause-tells c =

@@ -20,4 +20,4 @@ returns-then-not-bit-clause-tells c = tells_plain c.args.bit c.if-not-bit.true c
 pub returns-in-Ok-true-clause-tells : goal.returns-in-Ok-true-clause-tells
 returns-in-Ok-true-clause-tells c =
     let one : IsNumber 1 c.in_ok-other.other = some_at (λ p. IsNumber 1 p) _ _ c.in_ok-other.was (number_some _ _ _ c.ok-2.ensures.value c.constant-2.ensures.value c.constant-2.ensures.within) in
-    tells_opposite _ c.args.bit _ _ _ one (tells_negated c.args.bit c.if-not-bit.false c.in_ok-truth.ensures.tells) ?
+    tells_opposite _ c.args.bit _ _ _ one (tells_negated c.args.bit c.if-not-bit.false c.in_ok-truth.ensures.tells) (c.in-Ok-true.ensures.added c.in-Ok-true.field-0-test)
