@@ -21,4 +21,6 @@ pub mod Moved
 pub mod Placed
 pub mod Feeding
 pub mod WordLaws
+pub mod Congruence
+pub mod HintLaws
 pub mod Unknowns

@@ -1,10 +1,11 @@
 // What is known of words beside the nodes of a net. Where memory or a limit stands in the way, less is known.
 ghost use Rattle.std.specs.Prelude.{◌≡◌, ℕ, Bool, ◌+◌, ◌*◌, ◌≤◌, ◌^◌, ◌%◌, [], IfSome, List, cond, length, nat_eq};
+ghost use Rattle.polynomials.specs.Calls.{Multiplies};
 ghost use Rattle.polynomials.specs.Values.{Same};
 ghost use Rattle.circuits.specs.declared.net.NetNode.{NetNode};
 ghost use Rattle.circuits.specs.Net.{holds, IsIn, IsNet, Means};
-ghost use Rattle.circuits.specs.Numbers.{number, AreIn};
-ghost use Rattle.circuits.specs.Words.{AreOperands, AreTrue, Asks, Tells, bits_of};
+ghost use Rattle.circuits.specs.Numbers.{digit, number, AreIn};
+ghost use Rattle.circuits.specs.Words.{AreOperands, AreTrue, Asks, Continues, Tells, bits_of};
 
 use crate::words::Words;
 use crate::zeros::Zeros;
@@ -19,12 +20,26 @@ pub struct Hints {
     pub zeros: Zeros,
 }
 
-// the lowest digits that the width keeps
-fn mask(width: u32) -> u64 {
-    if width >= 64 {
-        u64::MAX
+// the lowest digits of a number
+fn cut(width: u32, number: u64) -> u64
+    requires { width ≤ 64 }
+    ensures { result ≡ number % 2 ^ width }
+{
+    if width == 64 {
+        number
     } else {
-        (1 << width) - 1
+        number % (1u64 << width)
+    }
+}
+
+// the product, where memory and the limits on polynomials allow it
+fn times(alloc: Global, width: u32, p: &Polynomial, q: &Polynomial) -> Option<Polynomial>
+    requires { width ≤ 64 }
+    ensures { IfSome result (λ m. Multiplies width p.now q.now m) }
+{
+    match multiply(alloc, width, p, q) {
+        Ok(Some(product)) => Some(product),
+        _ => None,
     }
 }
 
@@ -37,6 +52,45 @@ impl Hints {
             words: Words::new(alloc),
             zeros: Zeros::new(alloc),
         }
+    }
+
+    // a polynomial that tells the number of bits
+    fn told(&mut self, alloc: Global, nodes: &[NetNode], bits: &[Bit]) -> Option<Polynomial>
+        requires net { IsNet nodes.now }
+        requires hints { AreTrue nodes.now self.old }
+        requires bits_in { AreIn nodes.now bits.now }
+        requires wide { length bits.now ≤ 64 }
+        ensures hints { AreTrue nodes.now self.new }
+        ensures more { Continues self.old.words.list.items self.new.words.list.items }
+        ensures tells { IfSome result (λ p. Tells nodes.now (bits_of self.new.words.list.items) (length bits.now) p
+            (λ v. number v nodes.now bits.now)) }
+    {
+        self.words.polynomial(alloc, nodes, bits)
+    }
+
+    // a polynomial that tells whether a bit is true
+    fn truth(&mut self, alloc: Global, nodes: &[NetNode], bit: Bit) -> Option<Polynomial>
+        requires net { IsNet nodes.now }
+        requires hints { AreTrue nodes.now self.old }
+        requires bit_in { IsIn nodes.now bit }
+        ensures hints { AreTrue nodes.now self.new }
+        ensures more { Continues self.old.words.list.items self.new.words.list.items }
+        ensures tells { IfSome result (λ p. Tells nodes.now (bits_of self.new.words.list.items) 64 p
+            (λ v. digit (holds v nodes.now bit))) }
+    {
+        self.words.truth(alloc, nodes, bit)
+    }
+
+    // keeps a polynomial that tells the number of bits
+    fn note(&mut self, alloc: Global, nodes: &[NetNode], bits: &[Bit], polynomial: Polynomial)
+        requires hints { AreTrue nodes.now self.old }
+        requires bits_in { AreIn nodes.now bits.now }
+        requires wide { length bits.now ≤ 64 }
+        requires tells { Tells nodes.now (bits_of self.old.words.list.items) (length bits.now) polynomial
+            (λ v. number v nodes.now bits.now) }
+        ensures hints { AreTrue nodes.now self.new }
+    {
+        self.words.note(alloc, nodes, bits, polynomial);
     }
 
     // a + coefficient * b
@@ -56,8 +110,8 @@ impl Hints {
             (λ v. number v nodes.now a.now + coefficient * number v nodes.now b.now)) }
     {
         let width = a.len() as u32;
-        let mut sum = self.words.polynomial(alloc, nodes, a)?;
-        let other = self.words.polynomial(alloc, nodes, b)?;
+        let mut sum = self.told(alloc, nodes, a)?;
+        let other = self.told(alloc, nodes, b)?;
         match sum.add_multiple(width, coefficient, [0; 6], &other) {
             Ok(true) => Some(sum),
             _ => None,
@@ -84,7 +138,7 @@ impl Hints {
         ensures hints { AreTrue nodes.now self.new }
     {
         if let Some(sum) = self.combined(alloc, nodes, a, coefficient, b) {
-            self.words.note(alloc, nodes, out, sum);
+            self.note(alloc, nodes, out, sum);
         }
     }
 
@@ -103,9 +157,9 @@ impl Hints {
         ensures tells { IfSome result (λ p. Tells nodes.now (bits_of self.new.words.list.items) (length a.now) p
             (λ v. number v nodes.now a.now * number v nodes.now b.now)) }
     {
-        let left = self.words.polynomial(alloc, nodes, a)?;
-        let right = self.words.polynomial(alloc, nodes, b)?;
-        multiply(alloc, a.len() as u32, &left, &right).ok()?
+        let left = self.told(alloc, nodes, a)?;
+        let right = self.told(alloc, nodes, b)?;
+        times(alloc, a.len() as u32, &left, &right)
     }
 
     /// Bits are a * b.
@@ -127,7 +181,7 @@ impl Hints {
         ensures hints { AreTrue nodes.now self.new }
     {
         if let Some(product) = self.multiplied(alloc, nodes, a, b) {
-            self.words.note(alloc, nodes, out, product);
+            self.note(alloc, nodes, out, product);
         }
     }
 
@@ -150,9 +204,9 @@ impl Hints {
     {
         let width = yes.len() as u32;
         let more = self.combined(alloc, nodes, yes, u64::MAX, no)?;
-        let truth = self.words.truth(alloc, nodes, test)?;
-        let part = multiply(alloc, width, &truth, &more).ok()??;
-        let mut chosen = self.words.polynomial(alloc, nodes, no)?;
+        let truth = self.truth(alloc, nodes, test)?;
+        let part = times(alloc, width, &truth, &more)?;
+        let mut chosen = self.told(alloc, nodes, no)?;
         match chosen.add_multiple(width, 1, [0; 6], &part) {
             Ok(true) => Some(chosen),
             _ => None,
@@ -180,7 +234,7 @@ impl Hints {
         ensures hints { AreTrue nodes.now self.new }
     {
         if let Some(chosen) = self.chosen(alloc, nodes, test, yes, no) {
-            self.words.note(alloc, nodes, out, chosen);
+            self.note(alloc, nodes, out, chosen);
         }
     }
 
@@ -195,12 +249,12 @@ impl Hints {
         requires is { (v : ℕ → Bool) → Same (length out.now) (number v nodes.now out.now) (number v nodes.now whole.now) }
         ensures hints { AreTrue nodes.now self.new }
     {
-        let Some(all) = self.words.polynomial(alloc, nodes, whole) else {
+        let Some(all) = self.told(alloc, nodes, whole) else {
             return;
         };
         let mut low = Polynomial::new(alloc);
         if let Ok(true) = low.add_multiple(out.len() as u32, 1, [0; 6], &all) {
-            self.words.note(alloc, nodes, out, low);
+            self.note(alloc, nodes, out, low);
         }
     }
 
@@ -237,7 +291,7 @@ impl Hints {
         match difference.as_constant() {
             Some(constant) => Some(Bit {
                 node: 0,
-                negated: constant & mask(width) != 0,
+                negated: cut(width, constant) != 0,
             }),
             None => self.zeros.find(width, &difference),
         }

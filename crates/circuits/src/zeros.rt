@@ -1,5 +1,5 @@
 // Bits that tell where polynomials are 0: equal questions have one answer.
-ghost use Rattle.std.specs.Prelude.{◌≡◌, ◌≤◌, List, [], IfSome};
+ghost use Rattle.std.specs.Prelude.{◌≡◌, ◌≤◌, ◌^◌, List, [], IfSome, length};
 ghost use Rattle.circuits.specs.declared.net.Bit.{Bit};
 ghost use Rattle.circuits.specs.declared.net.NetNode.{NetNode};
 ghost use Rattle.circuits.specs.Words.{AreZeros, IsZeroOf};
@@ -70,6 +70,7 @@ impl Zeros {
 
     // lets the last bit be found
     fn put_last(&mut self)
+        requires { length self.old.list.items ≤ 2 ^ 20 }
         ensures { self.new.list ≡ self.old.list }
     {
         let count = self.list.len();
