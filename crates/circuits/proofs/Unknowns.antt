@@ -1,8 +1,8 @@
 -- Unknowns that stand for words, and bits whose number needs none.
-use Rattle.std.proofs.Common.{◌≡◌, ℕ, zero, suc, ◌+◌, ◌*◌, ◌-◌, ◌/◌, ◌%◌, ◌^◌, ◌<◌, ◌≤◌, nat_eq, cond, Bool, true, false, not, ◌&&◌, Option, Some, None, Result, Ok, Err, List, [], ◌∷◌, ◌++◌, length, get_or, take, map, slice_get, bit_or, refl, sym, ◌∙◌, ap, subst, arith, add-one, length-append}
+use Rattle.std.proofs.Common.{◌≡◌, ℕ, zero, suc, ◌+◌, ◌*◌, ◌/◌, ◌%◌, ◌^◌, ◌<◌, ◌≤◌, nat_eq, cond, Bool, true, false, not, ◌&&◌, Option, Some, None, Result, Ok, Err, List, [], ◌∷◌, ◌++◌, length, get_or, take, slice_get, bit_or, refl, sym, ◌∙◌, ap, subst, arith, add-one}
 use Rattle.std.specs.List.{All}
 use Rattle.std.proofs.lemmas.List.{take_more, take_all, length-take-le, length-map, get_or-map}
-use Rattle.std.proofs.lemmas.List.Elements.{All-push, All-weaker, All-get_or, All-from_recursion, All-head, All-tail}
+use Rattle.std.proofs.lemmas.List.Elements.{All-push, All-weaker, All-get_or, All-from_recursion, All-head}
 use Rattle.std.proofs.lemmas.Option.{get_or_from_slice_get, slice_get_within, slice_get-map}
 use Rattle.std.proofs.lemmas.Nat.{or_block, one_shl, pow_pos}
 use Rattle.std.proofs.Math.Nat.{pow-suc}
@@ -13,19 +13,19 @@ use Rattle.std.specs.Cmp.{booleans_Decides}
 use Rattle.std.specs.Int.Bits.{or_zero_r}
 use Rattle.std.specs.Option.{option_map, IfSome}
 use Rattle.std.specs.Result.{result_ok, IfOk, OnOk}
-use Rattle.polynomials.specs.Values.{AreBelow, AreFactorsBelow, AreTruths, Same, factor, product_of, value}
+use Rattle.polynomials.specs.Values.{AreBelow, AreFactorsBelow, Same, factor, product_of, value}
 use Rattle.polynomials.specs.Calls.{IsWithMultiple}
 use Rattle.polynomials.specs.declared.polynomial.Term.{Term}
-use Rattle.polynomials.proofs.Sameness.{same_add, same_by, same_mul, same_narrow, same_refl, same_trans}
+use Rattle.polynomials.proofs.Sameness.{same_add, same_by, same_mul, same_trans}
 use Rattle.circuits.specs.declared.net.Bit.{Bit}
 use Rattle.circuits.specs.declared.net.NetNode.{NetNode}
 use Rattle.circuits.specs.declared.words.Word.{Word}
 use Rattle.circuits.specs.Net.{holds, IsIn, IsNet, xor, opposite, values_from}
 use Rattle.circuits.specs.Numbers.{digit, number, AreIn}
-use Rattle.circuits.specs.Words.{lowest, unknown, bits_of, IsOver, Tells, IsWord, AreWords, Continues}
+use Rattle.circuits.specs.Words.{lowest, unknown, bits_of, Tells, IsWord, AreWords}
 use Rattle.circuits.proofs.Nets.{first_true, holds-opposite}
 use Rattle.circuits.proofs.Counting.{number-append, number-one}
-use Rattle.circuits.proofs.WordLaws.{truths, tells_narrower, word_more, bits_of-append}
+use Rattle.circuits.proofs.WordLaws.{truths, word_more, bits_of-append}
 
 -- ---- constants
 xor_true : (n : Bool) → xor n true ≡ not n
@@ -49,10 +49,10 @@ pub zero_digits_more : (bits : List Bit) (i : ℕ) (d : Bit) → AreZeroDigits (
     → AreZeroDigits (take (i + 1) bits)
 zero_digits_more bits i d z l e n = record {
   is = λ net h v.
-    let b : Bit = get_or bits i d in
-    let off : digit (holds v net b) ≡ 0 = ap digit (constant_holds v net b h e ∙ ap not n) in
-    ap (number v net) (take_more bits i d l)
-    ∙ omega (arith, number-append v net (take i bits) (b ∷ []), number-one v net b, z.is net h v, ap (λ k. 2 ^ length (take i bits) * k) (number-one v net b ∙ off));
+      let b : Bit = get_or bits i d in
+      let off : digit (holds v net b) ≡ 0 = ap digit (constant_holds v net b h e ∙ ap not n) in
+      ap (number v net) (take_more bits i d l)
+      ∙ omega (arith, number-append v net (take i bits) (b ∷ []), number-one v net b, z.is net h v, ap (λ k. 2 ^ length (take i bits) * k) (number-one v net b ∙ off));
 }
 
 -- the lowest digit alone
@@ -203,10 +203,10 @@ words_added {net} words w bits e h inside wide tells =
     let own : List Bit = w.bits.items in
     let more : bits_of words ++ own ∷ [] ≡ bits_of (words ++ w ∷ []) = sym (bits_of-append words (w ∷ [])) in
     let told : Tells net (bits_of words ++ own ∷ []) (length own) w.polynomial (λ v. number v net own) =
-        subst (λ (b : List Bit). Tells net (bits_of words ++ b ∷ []) (length b) w.polynomial (λ v. number v net b)) (sym e) tells in
+    subst (λ (b : List Bit). Tells net (bits_of words ++ b ∷ []) (length b) w.polynomial (λ v. number v net b)) (sym e) tells in
     let here : IsWord net (bits_of words ++ own ∷ []) w = record { inside = subst (λ (b : List Bit). AreIn net b) (sym e) inside; wide = omega (arith, ap length e); tells = told } in
     let old : All (λ x. IsWord net (bits_of words ++ own ∷ []) x) words =
-        All-weaker (λ x. IsWord net (bits_of words) x) (λ x. IsWord net (bits_of words ++ own ∷ []) x) (λ x i. word_more (own ∷ []) i) words h in
+    All-weaker (λ x. IsWord net (bits_of words) x) (λ x. IsWord net (bits_of words ++ own ∷ []) x) (λ x i. word_more (own ∷ []) i) words h in
     subst (λ (ws : List (List Bit)). All (λ x. IsWord net ws x) (words ++ w ∷ [])) more (All-push (λ x. IsWord net (bits_of words ++ own ∷ []) x) words w old here)
 
 pub words_pushed : {net : List NetNode} {new : List Word} (words : List Word) (w : Word) (bits : List Bit) → new ≡ words ++ w ∷ [] → w.bits.items ≡ bits → AreWords net words → AreIn net bits → length bits ≤ 64
@@ -291,8 +291,8 @@ pub tells_opposite : {net : List NetNode} (ws : List (List Bit)) (b : Bit) (p ol
 tells_opposite {net} ws b p old new n t m = record {
   over = m.within (2 * length ws + 2) (n.within (2 * length ws + 2) (omega arith)) (zeros_below (2 * length ws + 2) (omega arith)) t.over;
   is = λ v.
-    let u : ℕ → ℕ = unknown v net ws in
-    let rest : Same 64 (18446744073709551615 * product_of u (0 ∷ 0 ∷ 0 ∷ 0 ∷ 0 ∷ 0 ∷ []) * value u p) (18446744073709551615 * 1 * digit (not (holds v net b))) =
-        same_mul (same_by (ap (λ k. 18446744073709551615 * k) (product_one u))) (same_trans (t.is v) (same_by (ap digit (holds-opposite v net b)))) in
-    same_trans (m.is u (truths v net ws)) (same_trans (same_add (n.is u) rest) (wraps (holds v net b)));
+      let u : ℕ → ℕ = unknown v net ws in
+      let rest : Same 64 (18446744073709551615 * product_of u (0 ∷ 0 ∷ 0 ∷ 0 ∷ 0 ∷ 0 ∷ []) * value u p) (18446744073709551615 * 1 * digit (not (holds v net b))) =
+      same_mul (same_by (ap (λ k. 18446744073709551615 * k) (product_one u))) (same_trans (t.is v) (same_by (ap digit (holds-opposite v net b)))) in
+      same_trans (m.is u (truths v net ws)) (same_trans (same_add (n.is u) rest) (wraps (holds v net b)));
 }

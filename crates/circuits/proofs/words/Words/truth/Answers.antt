@@ -1,5 +1,4 @@
-use Rattle.std.proofs.Common.{◌≡◌, ◌∙◌, ℕ, Bool, not, sym, ap}
-use Rattle.circuits.specs.Net.{holds}
+use Rattle.std.proofs.Common.{◌≡◌, ◌∙◌, not, sym, ap}
 use Rattle.circuits.specs.Numbers.{digit}
 use Rattle.circuits.proofs.Unknowns.{IsNumber, constant_holds, number_some, some_weaker, some_at, tells_constant, tells_negated, tells_opposite, tells_plain}
 use Rattle.circuits.proofs.words.Words.truth.Goals as goal

@@ -1,4 +1,4 @@
-use Rattle.std.proofs.Common.{◌≡◌, ◌+◌, ◌*◌, Some, slice_get, List, [], ◌∷◌}
+use Rattle.std.proofs.Common.{◌≡◌, ◌+◌, ◌*◌, Some, slice_get, [], ◌∷◌}
 use Rattle.circuits.specs.Words.{bits_of}
 use Rattle.circuits.proofs.Unknowns.{IsUnknown, unknown_some, some_weaker, tells_lowest}
 use Rattle.circuits.proofs.words.Words.unknown_truth.Goals as goal
