@@ -1,10 +1,10 @@
 -- What polynomials over words tell stays true as nodes and words are added.
-use Rattle.std.proofs.Common.{◌≡◌, ℕ, zero, suc, ◌+◌, ◌*◌, ◌/◌, ◌%◌, ◌^◌, ◌<◌, ◌≤◌, nat_eq, cond, Bool, true, false, List, [], ◌∷◌, ◌++◌, length, get_or, map, refl, sym, ◌∙◌, ap, arith, length-append, append-nil, append_assoc}
+use Rattle.std.proofs.Common.{◌≡◌, ℕ, zero, suc, ◌+◌, ◌*◌, ◌/◌, ◌%◌, ◌^◌, ◌<◌, ◌≤◌, nat_eq, cond, Bool, true, false, List, [], ◌∷◌, ◌++◌, length, get_or, refl, sym, ◌∙◌, ap, arith, length-append, append-nil, append_assoc}
 use Rattle.std.specs.List.{All}
 use Rattle.std.proofs.lemmas.List.{map-append, get_or_append_left}
-use Rattle.std.proofs.lemmas.List.Elements.{All-head, All-tail, All-weaker, All-map, All-get_or, All-nil, All-cons}
+use Rattle.std.proofs.lemmas.List.Elements.{All-head, All-tail, All-weaker, All-map, All-nil, All-cons}
 use Rattle.std.proofs.lemmas.List.Sums.{sum_by-cons}
-use Rattle.polynomials.specs.Values.{AreBelow, AreFactorsBelow, AreTruths, Same, factor, product_of, value}
+use Rattle.polynomials.specs.Values.{AreBelow, AreFactorsBelow, AreTruths, Same, product_of, value}
 use Rattle.polynomials.specs.declared.polynomial.Term.{Term}
 use Rattle.polynomials.proofs.Sameness.{same_by, same_narrow, same_trans}
 use Rattle.circuits.specs.declared.net.Bit.{Bit}
@@ -14,7 +14,7 @@ use Rattle.circuits.specs.declared.zeros.Zero.{Zero}
 use Rattle.circuits.specs.declared.hints.Hints.{Hints}
 use Rattle.circuits.specs.Net.{holds, IsIn}
 use Rattle.circuits.specs.Numbers.{digit, number, AreIn}
-use Rattle.circuits.specs.Words.{lowest, unknown, bits_of, IsOver, Tells, IsWord, IsZeroOf, IsZero, AreWords, AreZeros, AreTrue, Continues}
+use Rattle.circuits.specs.Words.{lowest, unknown, bits_of, IsOver, Tells, IsWord, IsZero, AreWords, AreZeros, AreTrue, Continues}
 use Rattle.circuits.proofs.Nets.{holds-append}
 use Rattle.circuits.proofs.Feeding.{in_more, number_more}
 

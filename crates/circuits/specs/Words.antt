@@ -1,5 +1,5 @@
 -- The words of a net: lists of its bits with polynomials that tell their numbers, and bits that tell where polynomials are 0.
-use Rattle.std.specs.Prelude.{◌≡◌, ℕ, ◌+◌, ◌*◌, ◌/◌, ◌%◌, ◌^◌, ◌≤◌, Bool, true, nat_eq, cond, List, [], ◌∷◌, ◌++◌, length, map, get_or}
+use Rattle.std.specs.Prelude.{◌≡◌, ℕ, ◌+◌, ◌*◌, ◌/◌, ◌%◌, ◌^◌, ◌≤◌, Bool, nat_eq, cond, List, [], ◌∷◌, ◌++◌, length, map, get_or}
 use Rattle.std.specs.List.{All}
 use Rattle.polynomials.specs.Values.{AreBelow, Same, value}
 use Rattle.polynomials.specs.declared.polynomial.Term.{Term}

@@ -1,4 +1,4 @@
-use Rattle.std.proofs.Common.{◌≡◌, refl, ap, ◌∙◌}
+use Rattle.std.proofs.Common.{ap, ◌∙◌}
 use Rattle.circuits.proofs.Unknowns.{bits_pushed, words_pushed}
 use Rattle.circuits.proofs.words.Words.add.Goals as goal
 
