@@ -5,7 +5,7 @@ use Rattle.std.proofs.Math.Seq.{get_or-append_seam}
 use Rattle.circuits.specs.declared.net.Bit.{Bit}
 use Rattle.circuits.specs.declared.net.NetNode.{NetNode}
 use Rattle.circuits.specs.declared.net.NetNode.TheVariants.{Constant, Input, And}
-use Rattle.circuits.specs.Net.{xor, bit_in, node_in, values_from, holds, opposite, count_ands, count_inputs, Grown, Means, IsFine, AreFine, IsNet, IsCounted, Folds, IsIn}
+use Rattle.circuits.specs.Net.{xor, bit_in, node_in, values_from, holds, opposite, count_ands, count_inputs, Grown, Means, IsFine, AreFine, IsNet, Folds, IsIn}
 
 pub values_from-append : (v : ℕ → Bool) (vs : List Bool) (xs ys : List NetNode) → values_from v vs (xs ++ ys) ≡ values_from v (values_from v vs xs) ys
 unfolding values_from
@@ -173,18 +173,6 @@ counted net h = omega (arith, counted_from 1 0 h.0 h.2, ap count_ands h.1, ap co
 pub grown_pushed : (net : List NetNode) (a b : Bit) → Grown 1 net (net ++ And a b ∷ [])
 unfolding count_ands
 grown_pushed net a b = record { more = And a b ∷ []; is = refl; gates = refl; few = omega arith }
-
-pub counted_and : (net : List NetNode) (k : ℕ) (a b : Bit) → IsCounted net k → IsFine (length net) (count_inputs net) (And a b) → IsCounted (net ++ And a b ∷ []) k
-unfolding count_inputs
-counted_and net k a b h f = record { fine = IsNet-push net (And a b) h.fine f; is = omega (arith, h.is, inputs-append net (And a b ∷ [])) }
-
-pub counted_input : (net : List NetNode) (k : ℕ) → IsCounted net k → IsCounted (net ++ Input k ∷ []) (k + 1)
-unfolding count_inputs
-counted_input net k h = record { fine = IsNet-push net (Input k) h.fine h.is; is = omega (arith, h.is, inputs-append net (Input k ∷ [])) }
-
-pub counted_new : (net : List NetNode) → net ≡ Constant true ∷ [] → IsCounted net 0
-unfolding count_inputs AreFine
-counted_new net e = record { fine = ([], e, tt); is = sym (ap count_inputs e) }
 
 pub input_added : {new items now : List NetNode} {k : ℕ} → new ≡ items ++ Input k ∷ [] → items ≡ now → k ≡ count_inputs items → new ≡ now ++ Input (count_inputs now) ∷ []
 input_added {new} {items} {now} {k} e f h = e ∙ ap (λ l. l ++ Input k ∷ []) f ∙ ap (λ j. now ++ Input j ∷ []) (h ∙ ap count_inputs f)

@@ -1,15 +1,19 @@
 -- Unknowns that stand for words, and bits whose number needs none.
-use Rattle.std.proofs.Common.{◌≡◌, ℕ, zero, suc, ◌+◌, ◌*◌, ◌-◌, ◌/◌, ◌%◌, ◌^◌, ◌<◌, ◌≤◌, nat_eq, cond, Bool, true, false, not, Option, Some, None, Result, Ok, Err, List, [], ◌∷◌, ◌++◌, length, get_or, take, map, slice_get, bit_or, refl, sym, ◌∙◌, ap, subst, arith, add-one, length-append}
+use Rattle.std.proofs.Common.{◌≡◌, ℕ, zero, suc, ◌+◌, ◌*◌, ◌-◌, ◌/◌, ◌%◌, ◌^◌, ◌<◌, ◌≤◌, nat_eq, cond, Bool, true, false, not, ◌&&◌, Option, Some, None, Result, Ok, Err, List, [], ◌∷◌, ◌++◌, length, get_or, take, map, slice_get, bit_or, refl, sym, ◌∙◌, ap, subst, arith, add-one, length-append}
 use Rattle.std.specs.List.{All}
 use Rattle.std.proofs.lemmas.List.{take_more, take_all, length-take-le, length-map, get_or-map}
-use Rattle.std.proofs.lemmas.List.Elements.{All-push, All-weaker, All-get_or, All-head, All-tail}
+use Rattle.std.proofs.lemmas.List.Elements.{All-push, All-weaker, All-get_or, All-from_recursion, All-head, All-tail}
 use Rattle.std.proofs.lemmas.Option.{get_or_from_slice_get, slice_get_within, slice_get-map}
 use Rattle.std.proofs.lemmas.Nat.{or_block, one_shl, pow_pos}
 use Rattle.std.proofs.Math.Nat.{pow-suc}
+use Rattle.std.proofs.Math.Bool.{beq}
+use Rattle.std.proofs.lemmas.Bool.Decides.{Decides-and, Decides-eqb, Decides-like}
+use Rattle.std.specs.Bool.{Decides}
+use Rattle.std.specs.Cmp.{booleans_Decides}
 use Rattle.std.specs.Int.Bits.{or_zero_r}
 use Rattle.std.specs.Option.{option_map, IfSome}
-use Rattle.std.specs.Result.{result_ok, IfOk}
-use Rattle.polynomials.specs.Values.{AreBelow, AreTruths, Same, factor, product_of, value}
+use Rattle.std.specs.Result.{result_ok, IfOk, OnOk}
+use Rattle.polynomials.specs.Values.{AreBelow, AreFactorsBelow, AreTruths, Same, factor, product_of, value}
 use Rattle.polynomials.specs.Calls.{IsWithMultiple}
 use Rattle.polynomials.specs.declared.polynomial.Term.{Term}
 use Rattle.polynomials.proofs.Sameness.{same_add, same_by, same_mul, same_narrow, same_refl, same_trans}
@@ -157,13 +161,13 @@ some_of {E} Q (Err d) o e h = subst (λ (x : Option (List Term)). IfSome x Q) (s
 
 pub unknown_some : {E : Type 0} (x : ℕ) (r : Result (List Term) E) (o : Option (List Term)) → o ≡ result_ok r
     → IfOk r (λ p. (v : ℕ → ℕ) → value v p ≡ factor v x) → IfOk r (λ p. (n : ℕ) → x < n → AreBelow n p) → IfSome o (λ p. IsUnknown x p)
-unknown_some {E} x (Ok p) o e h k = some_of (λ p. IsUnknown x p) (Ok p) o e (record { is = h; within = k })
-unknown_some {E} x (Err d) o e h k = some_of (λ p. IsUnknown x p) (Err d) o e tt
+unknown_some {E} x (Ok p) o e h k = some_of {E = E} (λ p. IsUnknown x p) (Ok p) o e (record { is = h; within = k })
+unknown_some {E} x (Err d) o e h k = some_of {E = E} (λ p. IsUnknown x p) (Err d) o e tt
 
 pub number_some : {E : Type 0} (c : ℕ) (r : Result (List Term) E) (o : Option (List Term)) → o ≡ result_ok r
     → IfOk r (λ p. (v : ℕ → ℕ) → Same 64 (value v p) c) → IfOk r (λ p. (n : ℕ) → 0 < n → AreBelow n p) → IfSome o (λ p. IsNumber c p)
-number_some {E} c (Ok p) o e h k = some_of (λ p. IsNumber c p) (Ok p) o e (record { is = h; within = k })
-number_some {E} c (Err d) o e h k = some_of (λ p. IsNumber c p) (Err d) o e tt
+number_some {E} c (Ok p) o e h k = some_of {E = E} (λ p. IsNumber c p) (Ok p) o e (record { is = h; within = k })
+number_some {E} c (Err d) o e h k = some_of {E = E} (λ p. IsNumber c p) (Err d) o e tt
 
 pub copy_some : {E : Type 0} (q : List Term) (r : Result (List Term) E) (o : Option (List Term)) → o ≡ result_ok r → IfOk r (λ p. p ≡ q) → IfSome o (λ p. p ≡ q)
 copy_some {E} q r o e h = some_of (λ p. p ≡ q) r o e h
@@ -216,17 +220,40 @@ pub place_of_last : (words : List (List Bit)) (bits : List Bit) → Some bits �
 place_of_last [] bits = refl
 place_of_last (w ∷ ws) bits = place_of_last ws bits
 
+pub place_of_word : (words : List Word) {bits : List Bit} (at : ℕ) → Some bits ≡ slice_get (bits_of words) at → at < length words
+place_of_word words {bits} at e = omega (arith, place_within (bits_of words) at e, length-map words (λ w. w.bits.items))
+
 -- what is known of a word
 pub tells_known : {net : List NetNode} (words : List Word) {bits : List Bit} (at : ℕ) (d : Word) → AreWords net words → Some bits ≡ slice_get (bits_of words) at
     → Tells net (bits_of words) (length bits) (get_or words at d).polynomial (λ v. number v net bits)
 tells_known {net} words {bits} at d h e =
-    let lt : at < length words = omega (arith, place_within (bits_of words) at e, length-map words (λ w. w.bits.items)) in
+    let lt : at < length words = place_of_word words at e in
     let found : IsWord net (bits_of words) (get_or words at d) = All-get_or (λ w. IsWord net (bits_of words) w) words at d lt h in
     let same : (get_or words at d).bits.items ≡ bits = sym (get_or-map (λ w. w.bits.items) words at d [] lt) ∙ word_at (bits_of words) at e in
     subst (λ (b : List Bit). Tells net (bits_of words) (length b) (get_or words at d).polynomial (λ v. number v net b)) same found.tells
 
+-- of a copy
+pub tells_copied : {net : List NetNode} {p : List Term} (words : List Word) {bits : List Bit} (at : ℕ) (w : Word) → w ≡ get_or words at w → AreWords net words → Some bits ≡ slice_get (bits_of words) at
+    → p ≡ w.polynomial → Tells net (bits_of words) (length bits) p (λ v. number v net bits)
+tells_copied {net} {p} words {bits} at w f h e g =
+    let same : get_or words at w ≡ w = sym f in
+    subst (λ (q : List Term). Tells net (bits_of words) (length bits) q (λ v. number v net bits)) (ap (λ (x : Word). x.polynomial) same ∙ sym g) (tells_known words at w h e)
+
+same_bit : (a b : Bit) → (a.node ≡ b.node) × (a.negated ≡ b.negated) → a ≡ b
+same_bit a b e = ap (λ n. record { node = n; negated = a.negated }) e.0 ∙ ap (λ n. record { node = b.node; negated = n }) e.1
+
+pub bits_decide : (a b : Bit) → Decides (nat_eq a.node b.node && beq a.negated b.negated) (a ≡ b)
+bits_decide a b =
+    Decides-like _ (same_bit a b) (λ e. (ap (λ (x : Bit). x.node) e, ap (λ (x : Bit). x.negated) e))
+    (Decides-and (nat_eq a.node b.node) (beq a.negated b.negated) (Decides-eqb a.node b.node) (booleans_Decides a.negated b.negated))
+
 pub found_word : (words : List Word) (w : Word) (bits : List Bit) (at : ℕ) → slice_get words at ≡ Some w → w.bits.items ≡ bits → Some bits ≡ slice_get (bits_of words) at
 found_word words w bits at e f = sym (slice_get-map (λ w. w.bits.items) words at ∙ ap (option_map (λ w. w.bits.items)) e ∙ ap Some f)
+
+-- a call that wasn't refused
+pub done : {E : Type 0} {P : Type 0} (r : Result (Unit {0}) E) (o : Option (Unit {0})) (u : Unit {0}) → o ≡ result_ok r → o ≡ Some u → OnOk r P → P
+done {E} {P} (Ok x) o u e f h = h
+done {E} {P} (Err d) o u e f h = absurd (cc)
 
 pub last_place : (words : List Word) (bits : List Bit) (at : ℕ) → at ≡ length words → Some bits ≡ slice_get (bits_of words ++ bits ∷ []) at
 last_place words bits at e =
@@ -246,11 +273,23 @@ wraps : (h : Bool) → Same 64 (1 + 18446744073709551615 * 1 * digit (not h)) (d
 wraps true = record { is = refl }
 wraps false = record { is = refl }
 
+-- a bit that isn't negated is the plain one, and the opposite of it otherwise
+pub tells_plain : {net : List NetNode} {ws : List (List Bit)} {p : List Term} (b : Bit) → b.negated ≡ false → Tells net ws 64 p (λ v. digit (holds v net (record { node = b.node; negated = false })))
+    → Tells net ws 64 p (λ v. digit (holds v net b))
+tells_plain {net} {ws} {p} b e t = subst (λ (n : Bool). Tells net ws 64 p (λ v. digit (holds v net (record { node = b.node; negated = n })))) (sym e) t
+
+pub tells_negated : {net : List NetNode} {ws : List (List Bit)} {p : List Term} (b : Bit) → b.negated ≡ true → Tells net ws 64 p (λ v. digit (holds v net (record { node = b.node; negated = false })))
+    → Tells net ws 64 p (λ v. digit (holds v net (opposite b)))
+tells_negated {net} {ws} {p} b e t = subst (λ (n : Bool). Tells net ws 64 p (λ v. digit (holds v net (record { node = b.node; negated = n })))) (sym (ap not e)) t
+
+zeros_below : (n : ℕ) → 0 < n → AreFactorsBelow n (0 ∷ 0 ∷ 0 ∷ 0 ∷ 0 ∷ 0 ∷ [])
+zeros_below n h = All-from_recursion (λ x. x < n) (0 ∷ 0 ∷ 0 ∷ 0 ∷ 0 ∷ 0 ∷ []) (h, (h, (h, (h, (h, (h, tt))))))
+
 -- 1 less the opposite
 pub tells_opposite : {net : List NetNode} (ws : List (List Bit)) (b : Bit) (p old new : List Term) → IsNumber 1 old → Tells net ws 64 p (λ v. digit (holds v net (opposite b)))
     → IsWithMultiple 64 old 18446744073709551615 (0 ∷ 0 ∷ 0 ∷ 0 ∷ 0 ∷ 0 ∷ []) p new → Tells net ws 64 new (λ v. digit (holds v net b))
 tells_opposite {net} ws b p old new n t m = record {
-  over = m.within (2 * length ws + 2) (n.within (2 * length ws + 2) (omega arith)) (All-from_recursion (λ x. x < 2 * length ws + 2) (0 ∷ 0 ∷ 0 ∷ 0 ∷ 0 ∷ 0 ∷ []) (omega arith, omega arith, omega arith, omega arith, omega arith, omega arith, tt)) t.over;
+  over = m.within (2 * length ws + 2) (n.within (2 * length ws + 2) (omega arith)) (zeros_below (2 * length ws + 2) (omega arith)) t.over;
   is = λ v.
     let u : ℕ → ℕ = unknown v net ws in
     let rest : Same 64 (18446744073709551615 * product_of u (0 ∷ 0 ∷ 0 ∷ 0 ∷ 0 ∷ 0 ∷ []) * value u p) (18446744073709551615 * 1 * digit (not (holds v net b))) =

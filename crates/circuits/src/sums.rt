@@ -32,8 +32,8 @@ fn turned(net: &mut Net, a: Bit, b: Bit, total: Bit) -> Result<Bit, OutOfMemory>
     Ok(turned)
 }
 
-/// A sum, and whether it overflows.
-pub fn add(
+// a sum, and whether it overflows
+fn added(
     alloc: Global,
     net: &mut Net,
     model: DataModel,
@@ -52,12 +52,65 @@ pub fn add(
     let never = not(net.yes());
     let mut total = sum(alloc, net, a, b, never)?;
     total.truncate(a.len());
-    net.note_combined(alloc, a, 1, b, &total);
     let left = sign(net, ty, a);
     let right = sign(net, ty, b);
     let made = sign(net, ty, &total);
     let overflow = turned(net, left, right, made)?;
     let bits = Seq::from_vec(total);
+    Ok(Outcome {
+        value: Bits { bits },
+        overflow,
+        undefined: never,
+    })
+}
+
+/// A sum, and whether it overflows.
+pub fn add(
+    alloc: Global,
+    net: &mut Net,
+    model: DataModel,
+    ty: IntType,
+    a: &[Bit],
+    b: &[Bit],
+) -> Result<Outcome, OutOfMemory>
+    requires promoted { promote_of ty ≡ ty }
+    requires a_in { AreTyped model ty net.old a.now }
+    requires b_in { AreTyped model ty net.old b.now }
+    requires room { length net.old + 16 * width_of model ty ≤ 2 ^ 31 }
+    ensures grown { Grown (16 * width_of model ty) net.old net.new }
+    ensures value { IfOk result (λ r. Gives model ty net.new r
+        (λ v. apply_of model Add ty (typed model ty v net.old a.now) (typed model ty v net.old b.now))) }
+{
+    let out = added(alloc, net, model, ty, a, b)?;
+    net.note_combined(alloc, a, 1, b, out.value.bits.as_slice());
+    Ok(out)
+}
+
+// a difference, and whether it overflows
+fn subtracted(
+    alloc: Global,
+    net: &mut Net,
+    model: DataModel,
+    ty: IntType,
+    a: &[Bit],
+    b: &[Bit],
+) -> Result<Outcome, OutOfMemory>
+    requires promoted { promote_of ty ≡ ty }
+    requires a_in { AreTyped model ty net.old a.now }
+    requires b_in { AreTyped model ty net.old b.now }
+    requires room { length net.old + 16 * width_of model ty ≤ 2 ^ 31 }
+    ensures grown { Grown (16 * width_of model ty) net.old net.new }
+    ensures value { IfOk result (λ r. Gives model ty net.new r
+        (λ v. apply_of model Sub ty (typed model ty v net.old a.now) (typed model ty v net.old b.now))) }
+{
+    let never = not(net.yes());
+    let mut rest = difference(alloc, net, a, b)?;
+    rest.truncate(a.len());
+    let left = sign(net, ty, a);
+    let right = sign(net, ty, b);
+    let made = sign(net, ty, &rest);
+    let overflow = turned(net, left, not(right), made)?;
+    let bits = Seq::from_vec(rest);
     Ok(Outcome {
         value: Bits { bits },
         overflow,
@@ -82,20 +135,9 @@ pub fn subtract(
     ensures value { IfOk result (λ r. Gives model ty net.new r
         (λ v. apply_of model Sub ty (typed model ty v net.old a.now) (typed model ty v net.old b.now))) }
 {
-    let never = not(net.yes());
-    let mut rest = difference(alloc, net, a, b)?;
-    rest.truncate(a.len());
-    net.note_combined(alloc, a, u64::MAX, b, &rest);
-    let left = sign(net, ty, a);
-    let right = sign(net, ty, b);
-    let made = sign(net, ty, &rest);
-    let overflow = turned(net, left, not(right), made)?;
-    let bits = Seq::from_vec(rest);
-    Ok(Outcome {
-        value: Bits { bits },
-        overflow,
-        undefined: never,
-    })
+    let out = subtracted(alloc, net, model, ty, a, b)?;
+    net.note_combined(alloc, a, u64::MAX, b, out.value.bits.as_slice());
+    Ok(out)
 }
 
 /// Whether a is below b.
@@ -122,7 +164,28 @@ pub fn below(
     Ok(below)
 }
 
-/// Whether a and b are different numbers.
+// whether a and b are different numbers, bit by bit
+fn differ_in_bits(
+    alloc: Global,
+    net: &mut Net,
+    model: DataModel,
+    ty: IntType,
+    a: &[Bit],
+    b: &[Bit],
+) -> Result<Bit, OutOfMemory>
+    requires a_in { AreTyped model ty net.old a.now }
+    requires b_in { AreTyped model ty net.old b.now }
+    requires room { length net.old + 16 * width_of model ty ≤ 2 ^ 31 }
+    ensures grown { Grown (16 * width_of model ty) net.old net.new }
+    ensures value { IfOk result (λ r. Means net.new r
+        (λ v. not (int_eq (typed model ty v net.old a.now) (typed model ty v net.old b.now)))) }
+{
+    let apart = bitwise(alloc, net, Gate::Xor, a, b)?;
+    let differ = any(net, &apart)?;
+    Ok(differ)
+}
+
+/// Whether a and b are different numbers: by a bit that tells it already, where one is known.
 pub fn differ(
     alloc: Global,
     net: &mut Net,
@@ -141,8 +204,7 @@ pub fn differ(
     if let Some(equal) = net.known_equal(alloc, a, b) {
         return Ok(not(equal));
     }
-    let apart = bitwise(alloc, net, Gate::Xor, a, b)?;
-    let differ = any(net, &apart)?;
+    let differ = differ_in_bits(alloc, net, model, ty, a, b)?;
     net.note_equal(alloc, a, b, not(differ));
     Ok(differ)
 }

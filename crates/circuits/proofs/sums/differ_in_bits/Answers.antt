@@ -2,7 +2,7 @@ use Rattle.std.proofs.Common.{ap, arith, length}
 use Rattle.circuits.proofs.Nets.{grown_then, wider}
 use Rattle.circuits.proofs.Carrying.{counts_same, any_of}
 use Rattle.circuits.proofs.Summed.{differ_means}
-use Rattle.circuits.proofs.sums.differ.Goals as goal
+use Rattle.circuits.proofs.sums.differ_in_bits.Goals as goal
 
 pub returns-clause-value : goal.returns-clause-value
 returns-clause-value c = differ_means _ _ c.requires.a_in c.requires.b_in (any_of c.in_ok-differ.ensures.value (counts_same c.deref.ensures.value c.in_ok-apart.ensures.value))
