@@ -1,22 +1,20 @@
 -- What sums, products and choices of polynomials over words tell.
 use Rattle.std.proofs.Common.{◌≡◌, ℕ, ◌+◌, ◌*◌, ◌%◌, ◌^◌, ◌<◌, ◌≤◌, nat_eq, cond, Bool, true, false, List, [], ◌∷◌, length, not, refl, sym, ◌∙◌, ap, subst, arith}
-use Rattle.std.specs.List.{All}
 use Rattle.std.proofs.lemmas.List.Elements.{All-nil, All-replicate}
-use Rattle.polynomials.specs.Values.{AreBelow, AreFactorsBelow, Same, product_of, value}
+use Rattle.polynomials.specs.Values.{AreFactorsBelow, product_of, value}
 use Rattle.polynomials.specs.Calls.{IsWithMultiple, Multiplies, HasSameZeros, IsConstant}
 use Rattle.polynomials.specs.declared.polynomial.Term.{Term}
 use Rattle.polynomials.proofs.Sameness.{same_refl, same_by, same_trans, same_add, same_mul, same_narrow}
 use Rattle.circuits.specs.declared.net.Bit.{Bit}
 use Rattle.circuits.specs.declared.net.NetNode.{NetNode}
-use Rattle.circuits.specs.declared.words.Word.{Word}
 use Rattle.circuits.specs.declared.words.Words.{Words}
 use Rattle.circuits.specs.declared.hints.Hints.{Hints}
-use Rattle.circuits.specs.Net.{holds, IsIn, IsNet, Means}
-use Rattle.circuits.specs.Numbers.{digit, number, AreIn}
-use Rattle.circuits.specs.Words.{unknown, bits_of, Tells, IsZeroOf, AreOperands, AreWords, AreZeros, AreTrue, Asks, Continues}
+use Rattle.circuits.specs.Net.{holds, IsNet, Means}
+use Rattle.circuits.specs.Numbers.{digit, number}
+use Rattle.circuits.specs.Words.{unknown, Tells, IsZeroOf, AreOperands, AreWords, AreTrue, Asks, Continues}
 use Rattle.circuits.proofs.Nets.{means_yes, opp}
 use Rattle.circuits.proofs.Counting.{number_lt}
-use Rattle.circuits.proofs.WordLaws.{truths, tells_by, tells_narrower, tells_after, zeros_after}
+use Rattle.circuits.proofs.WordLaws.{truths, tells_by, zeros_after}
 use Rattle.circuits.proofs.Congruence.{choice, equal_where_zero, same_fewer}
 
 -- as many digits, by another name
@@ -42,9 +40,9 @@ pub tells_multiple : {net : List NetNode} {ws : List (List Bit)} {w k : ℕ} {fa
 tells_multiple {net} {ws} {w} {k} {factors} {p} {q} {r} {f} {g} m e s t = record {
   over = m.within (2 * length ws + 2) s.over (rw e (none_below (2 * length ws + 2) (omega arith))) t.over;
   is = λ v.
-    let u : ℕ → ℕ = unknown v net ws in
-    let alone : k * product_of u factors ≡ k = ap (λ l. k * product_of u l) e ∙ ap (λ n. k * n) (product_of_none u) ∙ omega arith in
-    same_trans (m.is u (truths v net ws)) (same_add (s.is v) (same_trans (same_by (ap (λ n. n * value u q) alone)) (same_mul (same_refl w k) (t.is v))));
+      let u : ℕ → ℕ = unknown v net ws in
+      let alone : k * product_of u factors ≡ k = ap (λ l. k * product_of u l) e ∙ ap (λ n. k * n) (product_of_none u) ∙ omega arith in
+      same_trans (m.is u (truths v net ws)) (same_add (s.is v) (same_trans (same_by (ap (λ n. n * value u q) alone)) (same_mul (same_refl w k) (t.is v))));
 }
 
 pub tells_product : {net : List NetNode} {ws : List (List Bit)} {w : ℕ} {p q r : List Term} {f g : (ℕ → Bool) → ℕ}
@@ -72,9 +70,9 @@ pub asks_normal : {net : List NetNode} {ws : List (List Bit)} {a b : List Bit} {
 asks_normal {net} {ws} {a} {b} {p} {q} m e o t h = record {
   over = h.within (2 * length ws + 2) t.over;
   is = λ v.
-    let u : ℕ → ℕ = unknown v net ws in
-    let below : number v net b < 2 ^ length a = rw (← o.same) (number_lt v net b) in
-    equal_where_zero (length a) m (number v net a) (number v net b) (value u p) (value u q) o.wide e (number_lt v net a) below (t.is v) (h.kept u) (h.only u);
+      let u : ℕ → ℕ = unknown v net ws in
+      let below : number v net b < 2 ^ length a = rw (← o.same) (number_lt v net b) in
+      equal_where_zero (length a) m (number v net a) (number v net b) (value u p) (value u q) o.wide e (number_lt v net a) below (t.is v) (h.kept u) (h.only u);
 }
 
 -- a bit that tells where a difference is 0
@@ -95,7 +93,7 @@ pub means_constant : {net : List NetNode} {ws : List (List Bit)} {a b : List Bit
     → r ≡ c % 2 ^ length a → Means net (record { node = 0; negated = not (nat_eq r 0) }) (λ v. nat_eq (number v net a) (number v net b))
 means_constant {net} {ws} {a} {b} {q} {c} {r} n l k i e =
     let same : (v : ℕ → Bool) → nat_eq r 0 ≡ nat_eq (number v net a) (number v net b) =
-        λ v. ap (λ x. nat_eq x 0) (e ∙ sym (same_narrow l (i.is (unknown v net ws))).is) ∙ k.is v in
+    λ v. ap (λ x. nat_eq x 0) (e ∙ sym (same_narrow l (i.is (unknown v net ws))).is) ∙ k.is v in
     constant_bit net (nat_eq r 0) (λ v. nat_eq (number v net a) (number v net b)) n same
 
 -- all hints, as words are added

@@ -1,5 +1,5 @@
 // What is known of words beside the nodes of a net. Where memory or a limit stands in the way, less is known.
-ghost use Rattle.std.specs.Prelude.{◌≡◌, ℕ, Bool, ◌+◌, ◌*◌, ◌≤◌, ◌^◌, ◌%◌, [], IfSome, List, cond, length, nat_eq};
+ghost use Rattle.std.specs.Prelude.{◌≡◌, ℕ, Bool, ◌+◌, ◌*◌, ◌≤◌, ◌^◌, ◌%◌, IfSome, List, cond, length, nat_eq};
 ghost use Rattle.polynomials.specs.Calls.{Multiplies};
 ghost use Rattle.polynomials.specs.Values.{Same};
 ghost use Rattle.circuits.specs.declared.net.NetNode.{NetNode};
@@ -246,7 +246,8 @@ impl Hints {
         requires few { length whole.now ≤ 64 }
         requires out_in { AreIn nodes.now out.now }
         requires wide { length out.now ≤ length whole.now }
-        requires is { (v : ℕ → Bool) → Same (length out.now) (number v nodes.now out.now) (number v nodes.now whole.now) }
+        requires is { (v : ℕ → Bool) → Same (length out.now) (number v nodes.now out.now)
+            (number v nodes.now whole.now) }
         ensures hints { AreTrue nodes.now self.new }
     {
         let Some(all) = self.told(alloc, nodes, whole) else {
