@@ -50,6 +50,16 @@ pub grown_not : (most : ℕ) (net : List NetNode) → Grown most net net
 unfolding count_ands
 grown_not most net = record { more = []; is = sym (append-nil net); gates = refl; few = omega arith }
 
+pub grown_same : {most : ℕ} {old new : List NetNode} → new ≡ old → Grown most old new
+grown_same {most} {old} {new} e = rw e (grown_not most old)
+
+-- from a net by another name, and to one
+pub grown_from : {most : ℕ} {old mid new : List NetNode} → mid ≡ old → Grown most mid new → Grown most old new
+grown_from {most} {old} {mid} {new} e g = rw (← e) g
+
+pub grown_until : {most : ℕ} {old new last : List NetNode} → last ≡ new → Grown most old new → Grown most old last
+grown_until {most} {old} {new} {last} e g = rw e g
+
 pub grown_then : (j k n : ℕ) (a b c : List NetNode) → Grown j a b → Grown k b c → j + k ≤ n → Grown n a c
 grown_then j k n a b c p q h = record {
   more = p.more ++ q.more;
@@ -57,6 +67,9 @@ grown_then j k n a b c p q h = record {
   gates = omega (arith, count_ands-append p.more q.more, length-append p.more q.more, p.gates, q.gates);
   few = omega (arith, length-append p.more q.more, p.few, q.few);
 }
+
+pub in_later : {most : ℕ} {old new : List NetNode} {b : Bit} → Grown most old new → IsIn old b → IsIn new b
+in_later {most} {old} {new} {b} g h = omega (arith, h, ap length g.is, length-append old g.more)
 
 pub wider : {j n : ℕ} {a b : List NetNode} → Grown j a b → j ≤ n → Grown n a b
 wider {j} {n} {a} {b} g h = record { more = g.more; is = g.is; gates = g.gates; few = omega (arith, g.few) }

@@ -1,5 +1,5 @@
 -- What circuits let the hints know.
-use Rattle.std.proofs.Common.{◌≡◌, ℕ, ◌+◌, ◌-◌, ◌*◌, ◌%◌, ◌^◌, ◌<◌, ◌≤◌, Bool, true, false, cond, not, ◌&&◌, nat_eq, ℤ, ◌+ℤ◌, ◌-ℤ◌, ◌*ℤ◌, List, length, sym, ◌∙◌, ap, subst, arith}
+use Rattle.std.proofs.Common.{◌≡◌, ℕ, ◌+◌, ◌-◌, ◌*◌, ◌%◌, ◌^◌, ◌<◌, ◌≤◌, Bool, true, false, cond, not, ◌&&◌, nat_eq, ℤ, ◌+ℤ◌, ◌-ℤ◌, ◌*ℤ◌, List, length, take, sym, ◌∙◌, ap, subst, arith}
 use Rattle.std.proofs.lemmas.Nat.{pow-add, pow_pos, mod_below}
 use Rattle.std.specs.Ordering.{int_eq}
 use Rattle.c_core.specs.Types.{width_of, is_signed, promote_of, in_range, residue, fit}
@@ -13,14 +13,14 @@ use Rattle.polynomials.proofs.Sameness.{same_refl, same_by, same_sym, same_trans
 use Rattle.circuits.specs.declared.net.Bit.{Bit}
 use Rattle.circuits.specs.declared.net.NetNode.{NetNode}
 use Rattle.circuits.specs.declared.bits.Outcome.{Outcome}
-use Rattle.circuits.specs.Net.{holds, xor, Grown, Means, IsIn}
+use Rattle.circuits.specs.Net.{holds, opposite, xor, Grown, Means, IsIn}
 use Rattle.circuits.specs.Numbers.{number, typed, AreIn, AreTyped, Counts}
 use Rattle.circuits.specs.Gates.{negative, size}
 use Rattle.circuits.specs.Outcome.{Gives, HasValue}
 use Rattle.circuits.specs.Words.{AreOperands}
-use Rattle.circuits.proofs.Nets.{stays, means_by}
-use Rattle.circuits.proofs.Counting.{number_stays, are_in_later}
-use Rattle.circuits.proofs.Carrying.{counts_lt, counts_same}
+use Rattle.circuits.proofs.Nets.{stays, means_by, opp}
+use Rattle.circuits.proofs.Counting.{number_stays, are_in_later, counts_later}
+use Rattle.circuits.proofs.Carrying.{counts_lt, counts_same, own_counts, low_counts}
 use Rattle.circuits.proofs.Reading.{equal_read, residue_read, residue_sum, residue_difference}
 use Rattle.circuits.proofs.Sizes.{signed_number, read_size, signed_mul, residue_size}
 use Rattle.circuits.proofs.Judged.{fit_is}
@@ -77,7 +77,7 @@ wraps w m n h l =
     let p : 2 ^ 64 ≡ 2 ^ (64 - w) * 2 ^ w = (let e : 64 ≡ 64 - w + w = omega arith in ap (λ k. 2 ^ k) e ∙ pow-add 2 (64 - w) w) in
     let left : m + (2 ^ w - n) + n ≡ m + 1 * 2 ^ w = omega arith in
     let right : m + 18446744073709551615 * n + n ≡ m + 2 ^ (64 - w) * n * 2 ^ w = omega (arith, ap (λ k. k * n) p) in
-    same_cancel {k = n} (same_trans (same_by left) (same_trans (same_add (same_refl w m) (same_trans (same_whole w 1) (same_sym (same_whole w (2 ^ (64 - w) * n))))) (same_by (sym right))))
+    same_cancel n (same_trans (same_by left) (same_trans (same_add (same_refl w m) (same_trans (same_whole w 1) (same_sym (same_whole w (2 ^ (64 - w) * n))))) (same_by (sym right))))
 
 pub difference_noted : {m : DataModel} {ty : IntType} {old mid : List NetNode} {o : Outcome} {out : List Bit} {most : ℕ} (a b : List Bit) → promote_of ty ≡ ty → Grown most old mid → AreTyped m ty old a → AreTyped m ty old b
     → Gives m ty mid o (λ v. apply_of m Sub ty (typed m ty v old a) (typed m ty v old b)) → out ≡ o.value.bits
@@ -95,7 +95,7 @@ turned_same : (w q x k : ℕ) → q + x ≡ k * 2 ^ w → Same w ((2 ^ w - q % 2
 turned_same w q x k e =
     let left : 2 ^ w - q % 2 ^ w + q % 2 ^ w ≡ 1 * 2 ^ w = omega (arith, mod_below q (2 ^ w) (pow_pos w)) in
     let right : x + q ≡ k * 2 ^ w = omega (arith, e) in
-    same_cancel {k = q}
+    same_cancel q
     (same_trans (same_add (same_mod w (2 ^ w - q % 2 ^ w)) (same_sym (same_mod w q)))
     (same_trans (same_by left) (same_trans (same_whole w 1) (same_trans (same_sym (same_whole w k)) (same_by (sym right))))))
 
@@ -103,7 +103,7 @@ both_turned : (w p q m n : ℕ) → p + m ≡ 2 ^ w → q + n ≡ 2 ^ w → Same
 both_turned w p q m n e f =
     let left : p * q + p * n ≡ p * 2 ^ w = omega (arith, ap (λ k. p * k) f) in
     let right : m * n + p * n ≡ n * 2 ^ w = omega (arith, ap (λ k. n * k) e) in
-    same_cancel {k = p * n} (same_trans (same_by left) (same_trans (same_whole w p) (same_trans (same_sym (same_whole w n)) (same_by (sym right)))))
+    same_cancel (p * n) (same_trans (same_by left) (same_trans (same_whole w p) (same_trans (same_sym (same_whole w n)) (same_by (sym right)))))
 
 product_same : (w m n : ℕ) (x y : Bool) → m < 2 ^ w → n < 2 ^ w
     → Same w (cond (xor x y) ((2 ^ w - cond x (2 ^ w - m) m * cond y (2 ^ w - n) n % 2 ^ w) % 2 ^ w) (cond x (2 ^ w - m) m * cond y (2 ^ w - n) n % 2 ^ w)) (m * n)
@@ -137,49 +137,84 @@ product_noted {m} {ty} {old} {mid} {o} {out} {most} a b p g ha hb given e =
     (same_by (ap (λ k. k * number v old b) (sym (number_stays v most old mid a g ha.inside)) ∙ ap (λ k. number v mid a * k) (sym (number_stays v most old mid b g hb.inside))))))
 
 -- ---- choices and cuts
-pub choice_noted : {old mid : List NetNode} {out : List Bit} {t : Bit} {most n : ℕ} (yes no : List Bit) → Grown most old mid → IsIn old t → AreIn old yes → AreIn old no
-    → Counts mid out n (λ v. cond (holds v old t) (number v old yes) (number v old no))
-    → (v : ℕ → Bool) → number v mid out ≡ cond (holds v mid t) (number v mid yes) (number v mid no)
-choice_noted {old} {mid} {out} {t} {most} {n} yes no g ht hy hn c v =
-    c.is v
-    ∙ ap (λ b. cond b (number v old yes) (number v old no)) (sym (stays v most old mid t g ht))
-    ∙ ap (λ k. cond (holds v mid t) k (number v old no)) (sym (number_stays v most old mid yes g hy))
-    ∙ ap (λ k. cond (holds v mid t) (number v mid yes) k) (sym (number_stays v most old mid no g hn))
+pub chosen_operands : {most : ℕ} {old new : List NetNode} {a b xs ys : List Bit} → Grown most old new → a ≡ xs → b ≡ ys → AreIn old xs → AreIn old ys → length ys ≡ length xs → length xs ≤ 64 → AreOperands new a b
+chosen_operands {most} {old} {new} {a} {b} {xs} {ys} g ea eb ha hb e l =
+    rw (ea, eb) (record { left = are_in_later most old new xs g ha; right = are_in_later most old new ys g hb; same = e; wide = l })
 
-pub operands_later : {most : ℕ} {old new : List NetNode} {a b : List Bit} → Grown most old new → AreIn old a → AreIn old b → length b ≡ length a → length a ≤ 64 → AreOperands new a b
-operands_later {most} {old} {new} {a} {b} g ha hb e l = record { left = are_in_later most old new a g ha; right = are_in_later most old new b g hb; same = e; wide = l }
+pub choice_noted : {old mid : List NetNode} {out a b xs ys : List Bit} {t : Bit} {most n : ℕ} → Grown most old mid → IsIn old t → a ≡ xs → b ≡ ys → AreIn old xs → AreIn old ys
+    → Counts mid out n (λ v. cond (holds v old t) (number v old a) (number v old b))
+    → (v : ℕ → Bool) → number v mid out ≡ cond (holds v mid t) (number v mid a) (number v mid b)
+choice_noted {old} {mid} {out} {a} {b} {xs} {ys} {t} {most} {n} g ht ea eb hx hy c v =
+    let ha : AreIn old a = rw ea hx in
+    let hb : AreIn old b = rw eb hy in
+    c.is v
+    ∙ ap (λ x. cond x (number v old a) (number v old b)) (sym (stays v most old mid t g ht))
+    ∙ ap (λ k. cond (holds v mid t) k (number v old b)) (sym (number_stays v most old mid a g ha))
+    ∙ ap (λ k. cond (holds v mid t) (number v mid a) k) (sym (number_stays v most old mid b g hb))
+
+pub chosen_later : {old new last : List NetNode} {out bits a b xs ys : List Bit} {t : Bit} → last ≡ new → bits ≡ out → a ≡ xs → b ≡ ys
+    → Counts new out (length a) (λ v. cond (holds v old t) (number v old a) (number v old b))
+    → Counts last bits (length xs) (λ v. cond (holds v old t) (number v old xs) (number v old ys))
+chosen_later {old} {new} {last} {out} {bits} {a} {b} {xs} {ys} {t} e eo ea eb c = rw (e, eo, ← ea, ← eb) c
+
+pub cut_counts : {m : DataModel} {ty : IntType} {net : List NetNode} {out low all : List Bit} (a : List Bit) (n : ℕ) → AreTyped m ty net a → n ≤ length a → out ≡ low → low ≡ take n all → all ≡ a
+    → Counts net out n (λ v. number v net a % 2 ^ n)
+cut_counts {m} {ty} {net} {out} {low} {all} a n h l eo el ea = counts_same (eo ∙ el ∙ ap (λ x. take n x) ea) (low_counts n l (own_counts net a h.inside))
 
 pub cut_noted : {net : List NetNode} {out : List Bit} {w : ℕ} (a : List Bit) → Counts net out w (λ v. number v net a % 2 ^ w) → (v : ℕ → Bool) → Same (length out) (number v net out) (number v net a)
 cut_noted {net} {out} {w} a c = low_noted (λ v. number v net a) c (λ v. same_mod w (number v net a))
 
 -- ---- comparisons
-pub known_differ : {m : DataModel} {ty : IntType} {net : List NetNode} {r : Bit} (a b : List Bit) → AreTyped m ty net a → AreTyped m ty net b
+known_here : {m : DataModel} {ty : IntType} {net : List NetNode} {r : Bit} (a b : List Bit) → AreTyped m ty net a → AreTyped m ty net b
     → Means net r (λ v. not (nat_eq (number v net a) (number v net b))) → Means net r (λ v. not (int_eq (typed m ty v net a) (typed m ty v net b)))
-known_differ {m} {ty} {net} {r} a b ha hb means =
+known_here {m} {ty} {net} {r} a b ha hb means =
     means_by _ _ _ _ means (λ v. ap not (equal_read (width_of m ty) (is_signed ty) (number v net a) (number v net b) (counts_lt (typed_counts ha) v) (counts_lt (typed_counts hb) v)))
 
--- a bit that tells of two numbers of an older net whether they differ
-pub differ_noted : {m : DataModel} {ty : IntType} {most : ℕ} {old new : List NetNode} {r x : Bit} (a b : List Bit) → Grown most old new → AreTyped m ty old a → AreTyped m ty old b
-    → Means new r (λ v. not (int_eq (typed m ty v old a) (typed m ty v old b))) → Means new x (λ v. not (holds v new r)) → Means new x (λ v. nat_eq (number v new a) (number v new b))
-differ_noted {m} {ty} {most} {old} {new} {r} {x} a b g ha hb means turned =
-    means_by _ _ _ _ turned (λ v.
-    ap not (means.is v) ∙ not_not (int_eq (typed m ty v old a) (typed m ty v old b))
-    ∙ sym (equal_read (width_of m ty) (is_signed ty) (number v old a) (number v old b) (counts_lt (typed_counts ha) v) (counts_lt (typed_counts hb) v))
-    ∙ ap (λ k. nat_eq k (number v old b)) (sym (number_stays v most old new a g ha.inside))
-    ∙ ap (λ k. nat_eq (number v new a) k) (sym (number_stays v most old new b g hb.inside)))
+-- the opposite of a bit that tells whether they are equal
+pub known_differ : {m : DataModel} {ty : IntType} {old new : List NetNode} {r equal : Bit} (a b : List Bit) → new ≡ old → AreTyped m ty old a → AreTyped m ty old b
+    → Means new equal (λ v. nat_eq (number v new a) (number v new b)) → r ≡ opposite equal → Means new r (λ v. not (int_eq (typed m ty v old a) (typed m ty v old b)))
+known_differ {m} {ty} {old} {new} {r} {equal} a b e ha hb means turned =
+    let known : Means old equal (λ v. nat_eq (number v old a) (number v old b)) = rw (← e) means in
+    rw e (known_here a b ha hb (opp turned known))
+
+-- a bit that tells of two numbers of an older net whether they are equal
+pub differ_noted : {m : DataModel} {ty : IntType} {most : ℕ} {old mid new : List NetNode} {r x : Bit} (a b : List Bit) → mid ≡ old → Grown most mid new → AreTyped m ty old a → AreTyped m ty old b
+    → Means new r (λ v. not (int_eq (typed m ty v mid a) (typed m ty v mid b))) → x ≡ opposite r → Means new x (λ v. nat_eq (number v new a) (number v new b))
+differ_noted {m} {ty} {most} {old} {mid} {new} {r} {x} a b e g ha hb means turned =
+    let ia : AreTyped m ty mid a = rw e ha in
+    let ib : AreTyped m ty mid b = rw e hb in
+    means_by _ _ _ _ (opp turned means) (λ v.
+    not_not (int_eq (typed m ty v mid a) (typed m ty v mid b))
+    ∙ sym (equal_read (width_of m ty) (is_signed ty) (number v mid a) (number v mid b) (counts_lt (typed_counts ia) v) (counts_lt (typed_counts ib) v))
+    ∙ ap (λ k. nat_eq k (number v mid b)) (sym (number_stays v most mid new a g ia.inside))
+    ∙ ap (λ k. nat_eq (number v new a) k) (sym (number_stays v most mid new b g ib.inside)))
+
+pub differ_after : {m : DataModel} {ty : IntType} {old mid new last : List NetNode} {r : Bit} (a b : List Bit) → mid ≡ old → last ≡ new
+    → Means new r (λ v. not (int_eq (typed m ty v mid a) (typed m ty v mid b))) → Means last r (λ v. not (int_eq (typed m ty v old a) (typed m ty v old b)))
+differ_after {m} {ty} {old} {mid} {new} {last} {r} a b e f means = rw (f, ← e) means
 
 -- the number 0 beside another
 pub zero_operands : {net : List NetNode} {zero : List Bit} (a : List Bit) → AreIn net a → length a ≤ 64 → Counts net zero (length a) (λ v. 0) → AreOperands net a zero
 zero_operands {net} {zero} a h l c = record { left = h; right = c.inside; same = c.wide; wide = l }
 
-pub zero_known : {net : List NetNode} {r : Bit} {zero : List Bit} {n : ℕ} (a : List Bit) → Counts net zero n (λ v. 0)
-    → Means net r (λ v. not (nat_eq (number v net a) (number v net zero))) → Means net r (λ v. not (nat_eq (number v net a) 0))
-zero_known {net} {r} {zero} {n} a c means = means_by _ _ _ _ means (λ v. ap (λ k. not (nat_eq (number v net a) k)) (c.is v))
+pub zero_operands_later : {most : ℕ} {old new : List NetNode} {zero : List Bit} (a : List Bit) → Grown most old new → AreIn old a → length a ≤ 64 → Counts old zero (length a) (λ v. 0) → AreOperands new a zero
+zero_operands_later {most} {old} {new} {zero} a g h l c = zero_operands a (are_in_later most old new a g h) l (counts_later g c)
 
-pub zero_noted : {old new : List NetNode} {r x : Bit} {zero : List Bit} {most n : ℕ} (a : List Bit) → Grown most old new → AreIn old a → Counts old zero n (λ v. 0)
-    → Means new r (λ v. not (nat_eq (number v old a) 0)) → Means new x (λ v. not (holds v new r)) → Means new x (λ v. nat_eq (number v new a) (number v new zero))
-zero_noted {old} {new} {r} {x} {zero} {most} {n} a g ha c means turned =
-    means_by _ _ _ _ turned (λ v.
-    ap not (means.is v) ∙ not_not (nat_eq (number v old a) 0)
-    ∙ ap (λ k. nat_eq k 0) (sym (number_stays v most old new a g ha))
-    ∙ ap (λ k. nat_eq (number v new a) k) (sym (number_stays v most old new zero g c.inside ∙ c.is v)))
+pub zero_known : {old new : List NetNode} {r equal : Bit} {zero : List Bit} {n : ℕ} (a : List Bit) → new ≡ old → Counts old zero n (λ v. 0)
+    → Means new equal (λ v. nat_eq (number v new a) (number v new zero)) → r ≡ opposite equal → Means new r (λ v. not (nat_eq (number v old a) 0))
+zero_known {old} {new} {r} {equal} {zero} {n} a e c means turned =
+    let known : Means old equal (λ v. nat_eq (number v old a) (number v old zero)) = rw (← e) means in
+    rw e (means_by _ _ _ _ (opp turned known) (λ v. ap (λ k. not (nat_eq (number v old a) k)) (c.is v)))
+
+pub zero_noted : {old mid new : List NetNode} {r x : Bit} {zero : List Bit} {most n : ℕ} (a : List Bit) → mid ≡ old → Grown most mid new → AreIn old a → Counts old zero n (λ v. 0)
+    → Means new r (λ v. not (nat_eq (number v mid a) 0)) → x ≡ opposite r → Means new x (λ v. nat_eq (number v new a) (number v new zero))
+zero_noted {old} {mid} {new} {r} {x} {zero} {most} {n} a e g ha c means turned =
+    let ia : AreIn mid a = rw e ha in
+    let none : Counts mid zero n (λ v. 0) = rw e c in
+    means_by _ _ _ _ (opp turned means) (λ v.
+    not_not (nat_eq (number v mid a) 0)
+    ∙ ap (λ k. nat_eq k 0) (sym (number_stays v most mid new a g ia))
+    ∙ ap (λ k. nat_eq (number v new a) k) (sym (number_stays v most mid new zero g none.inside ∙ none.is v)))
+
+pub zero_after : {old mid new last : List NetNode} {r : Bit} (a : List Bit) → mid ≡ old → last ≡ new → Means new r (λ v. not (nat_eq (number v mid a) 0)) → Means last r (λ v. not (nat_eq (number v old a) 0))
+zero_after {old} {mid} {new} {last} {r} a e f means = rw (f, ← e) means
