@@ -1,6 +1,6 @@
 -- What circuits let the hints know.
-use Rattle.std.proofs.Common.{◌≡◌, ℕ, ◌+◌, ◌-◌, ◌*◌, ◌%◌, ◌^◌, ◌<◌, ◌≤◌, Bool, true, false, cond, not, ◌&&◌, nat_eq, ℤ, ◌+ℤ◌, ◌-ℤ◌, ◌*ℤ◌, List, length, take, sym, ◌∙◌, ap, subst, arith}
-use Rattle.std.proofs.lemmas.Nat.{pow-add, pow_pos, mod_below}
+use Rattle.std.proofs.Common.{◌≡◌, ℕ, ◌+◌, ◌-◌, ◌*◌, ◌%◌, ◌^◌, ◌<◌, ◌≤◌, Bool, true, false, cond, not, ◌&&◌, nat_eq, ℤ, ◌+ℤ◌, ◌-ℤ◌, ◌*ℤ◌, List, length, take, refl, sym, ◌∙◌, ap, subst, arith}
+use Rattle.std.proofs.lemmas.Nat.{pow_pos, mod_below}
 use Rattle.std.specs.Ordering.{int_eq}
 use Rattle.c_core.specs.Types.{width_of, is_signed, promote_of, in_range, residue, fit}
 use Rattle.c_core.specs.Operators.{apply_of, exact}
@@ -27,6 +27,7 @@ use Rattle.circuits.proofs.Judged.{fit_is}
 use Rattle.circuits.proofs.Compared.{not_not}
 use Rattle.circuits.proofs.Converted.{residue_lt}
 use Rattle.circuits.proofs.Multiplied.{width_few}
+use Rattle.circuits.proofs.Congruence.{vanishes}
 use Rattle.circuits.proofs.Summed.{typed_counts}
 
 pub typed_later : {m : DataModel} {ty : IntType} {most : ℕ} {old new : List NetNode} {xs : List Bit} → Grown most old new → AreTyped m ty old xs → AreTyped m ty new xs
@@ -74,10 +75,10 @@ sum_noted {m} {ty} {old} {mid} {o} {out} {most} a b p g ha hb given e =
 
 wraps : (w m n : ℕ) → w ≤ 64 → n < 2 ^ w → Same w (m + (2 ^ w - n)) (m + 18446744073709551615 * n)
 wraps w m n h l =
-    let p : 2 ^ 64 ≡ 2 ^ (64 - w) * 2 ^ w = (let e : 64 ≡ 64 - w + w = omega arith in ap (λ k. 2 ^ k) e ∙ pow-add 2 (64 - w) w) in
     let left : m + (2 ^ w - n) + n ≡ m + 1 * 2 ^ w = omega arith in
-    let right : m + 18446744073709551615 * n + n ≡ m + 2 ^ (64 - w) * n * 2 ^ w = omega (arith, ap (λ k. k * n) p) in
-    same_cancel n (same_trans (same_by left) (same_trans (same_add (same_refl w m) (same_trans (same_whole w 1) (same_sym (same_whole w (2 ^ (64 - w) * n))))) (same_by (sym right))))
+    let right : m + (n + 18446744073709551615 * n) ≡ m + 18446744073709551615 * n + n = omega arith in
+    let none : Same w (1 * 2 ^ w) (n + 18446744073709551615 * n) = same_trans (same_whole w 1) (same_sym (vanishes w 18446744073709551615 n h refl)) in
+    same_cancel n (same_trans (same_by left) (same_trans (same_add (same_refl w m) none) (same_by right)))
 
 pub difference_noted : {m : DataModel} {ty : IntType} {old mid : List NetNode} {o : Outcome} {out : List Bit} {most : ℕ} (a b : List Bit) → promote_of ty ≡ ty → Grown most old mid → AreTyped m ty old a → AreTyped m ty old b
     → Gives m ty mid o (λ v. apply_of m Sub ty (typed m ty v old a) (typed m ty v old b)) → out ≡ o.value.bits
@@ -99,23 +100,29 @@ turned_same w q x k e =
     (same_trans (same_add (same_mod w (2 ^ w - q % 2 ^ w)) (same_sym (same_mod w q)))
     (same_trans (same_by left) (same_trans (same_whole w 1) (same_trans (same_sym (same_whole w k)) (same_by (sym right))))))
 
+-- a number and the rest of a whole, times another
+left_whole : (p m n k : ℕ) → p + m ≡ k → p * n + m * n ≡ n * k
+left_whole p m n k e = omega (arith, ap (λ x. n * x) e)
+
+right_whole : (m q n k : ℕ) → q + n ≡ k → m * q + m * n ≡ m * k
+right_whole m q n k e = omega (arith, ap (λ x. m * x) e)
+
 both_turned : (w p q m n : ℕ) → p + m ≡ 2 ^ w → q + n ≡ 2 ^ w → Same w (p * q) (m * n)
 both_turned w p q m n e f =
-    let left : p * q + p * n ≡ p * 2 ^ w = omega (arith, ap (λ k. p * k) f) in
-    let right : m * n + p * n ≡ n * 2 ^ w = omega (arith, ap (λ k. n * k) e) in
+    let left : p * q + p * n ≡ p * 2 ^ w = right_whole p q n (2 ^ w) f in
+    let right : m * n + p * n ≡ n * 2 ^ w = (let r : p * n + m * n ≡ n * 2 ^ w = left_whole p m n (2 ^ w) e in omega (arith, r)) in
     same_cancel (p * n) (same_trans (same_by left) (same_trans (same_whole w p) (same_trans (same_sym (same_whole w n)) (same_by (sym right)))))
+
+rest_whole : (k m : ℕ) → m < k → k - m + m ≡ k
+rest_whole k m h = omega arith
 
 product_same : (w m n : ℕ) (x y : Bool) → m < 2 ^ w → n < 2 ^ w
     → Same w (cond (xor x y) ((2 ^ w - cond x (2 ^ w - m) m * cond y (2 ^ w - n) n % 2 ^ w) % 2 ^ w) (cond x (2 ^ w - m) m * cond y (2 ^ w - n) n % 2 ^ w)) (m * n)
 product_same w m n false false hm hn = same_mod w (m * n)
 product_same w m n true true hm hn =
-    same_trans (same_mod w ((2 ^ w - m) * (2 ^ w - n))) (both_turned w (2 ^ w - m) (2 ^ w - n) m n (let e : 2 ^ w - m + m ≡ 2 ^ w = omega arith in e) (let e : 2 ^ w - n + n ≡ 2 ^ w = omega arith in e))
-product_same w m n true false hm hn =
-    let e : 2 ^ w - m + m ≡ 2 ^ w = omega arith in
-    turned_same w ((2 ^ w - m) * n) (m * n) n (let f : (2 ^ w - m) * n + m * n ≡ n * (2 ^ w - m + m) = omega arith in f ∙ ap (λ k. n * k) e)
-product_same w m n false true hm hn =
-    let e : 2 ^ w - n + n ≡ 2 ^ w = omega arith in
-    turned_same w (m * (2 ^ w - n)) (m * n) m (let f : m * (2 ^ w - n) + m * n ≡ m * (2 ^ w - n + n) = omega arith in f ∙ ap (λ k. m * k) e)
+    same_trans (same_mod w ((2 ^ w - m) * (2 ^ w - n))) (both_turned w (2 ^ w - m) (2 ^ w - n) m n (rest_whole (2 ^ w) m hm) (rest_whole (2 ^ w) n hn))
+product_same w m n true false hm hn = turned_same w ((2 ^ w - m) * n) (m * n) n (left_whole (2 ^ w - m) m n (2 ^ w) (rest_whole (2 ^ w) m hm))
+product_same w m n false true hm hn = turned_same w (m * (2 ^ w - n)) (m * n) m (right_whole m (2 ^ w - n) n (2 ^ w) (rest_whole (2 ^ w) n hn))
 
 pub product_noted : {m : DataModel} {ty : IntType} {old mid : List NetNode} {o : Outcome} {out : List Bit} {most : ℕ} (a b : List Bit) → promote_of ty ≡ ty → Grown most old mid → AreTyped m ty old a → AreTyped m ty old b
     → Gives m ty mid o (λ v. apply_of m Mul ty (typed m ty v old a) (typed m ty v old b)) → out ≡ o.value.bits

@@ -1,5 +1,5 @@
 use Rattle.std.proofs.Common.{◌∙◌, ap, arith, length}
-use Rattle.circuits.proofs.Nets.{wider, in_later}
+use Rattle.circuits.proofs.Nets.{wider, in_later, grown_until}
 use Rattle.circuits.proofs.Carrying.{counts_same}
 use Rattle.circuits.proofs.Noted.{chosen_operands, chosen_wide, choice_noted, chosen_later}
 use Rattle.circuits.proofs.bits.choose_bits.Goals as goal
@@ -26,7 +26,7 @@ pub returns-in_err-out-clause-grown : goal.returns-in_err-out-clause-grown
 returns-in_err-out-clause-grown c = wider c.in_err-out.ensures.grown (omega (arith, ap length c.as_slice-x.ensures))
 
 pub returns-clause-grown : goal.returns-clause-grown
-returns-clause-grown c = rw c.note_choice.ensures (wider c.in_ok-out.ensures.grown (omega (arith, ap length c.as_slice-x.ensures)))
+returns-clause-grown c = grown_until c.note_choice.ensures (wider c.in_ok-out.ensures.grown (omega (arith, ap length c.as_slice-x.ensures)))
 
 pub returns-clause-value : goal.returns-clause-value
 returns-clause-value c = chosen_later c.note_choice.ensures c.from_vec-bits.ensures c.as_slice-x.ensures c.as_slice-y.ensures c.in_ok-out.ensures.value

@@ -9,16 +9,16 @@ note_cut-requires-clause-few c = omega (arith, c.requires.a_in.wide, width_few c
 
 pub note_cut-requires-clause-out_in : goal.note_cut-requires-clause-out_in
 note_cut-requires-clause-out_in c =
-    (cut_counts _ _ c.requires.a_in (omega (arith, c.if-n-a.true)) c.deref.ensures.value c.truncate.ensures.items c.in_ok-low.ensures).inside
+    (cut_counts _ c.width-n.result c.requires.a_in (omega (arith, c.if-n-a.true)) c.deref.ensures.value c.truncate.ensures.items c.in_ok-low.ensures).inside
 
 pub note_cut-requires-clause-wide : goal.note_cut-requires-clause-wide
 note_cut-requires-clause-wide c =
-    let n = (cut_counts _ _ c.requires.a_in (omega (arith, c.if-n-a.true)) c.deref.ensures.value c.truncate.ensures.items c.in_ok-low.ensures).wide in
+    let n = (cut_counts _ c.width-n.result c.requires.a_in (omega (arith, c.if-n-a.true)) c.deref.ensures.value c.truncate.ensures.items c.in_ok-low.ensures).wide in
     omega (arith, n, c.if-n-a.true)
 
 pub note_cut-requires-clause-is : goal.note_cut-requires-clause-is
 note_cut-requires-clause-is c =
-    cut_noted _ (cut_counts _ _ c.requires.a_in (omega (arith, c.if-n-a.true)) c.deref.ensures.value c.truncate.ensures.items c.in_ok-low.ensures)
+    cut_noted _ (cut_counts _ c.width-n.result c.requires.a_in (omega (arith, c.if-n-a.true)) c.deref.ensures.value c.truncate.ensures.items c.in_ok-low.ensures)
 
 pub returns-then-n-a-clause-value : goal.returns-then-n-a-clause-value
 returns-then-n-a-clause-value c = rw c.note_cut.ensures (cut_reads _ c.requires.a_in c.requires.other (omega (arith, c.width-n.ensures, c.if-n-a.true))

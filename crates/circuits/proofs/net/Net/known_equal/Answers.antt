@@ -10,8 +10,8 @@ equal-requires-clause-hints c = rw c.deref.ensures.value c.self.invariant.hints
 pub equal-requires-clause-operands : goal.equal-requires-clause-operands
 equal-requires-clause-operands c = rw (c.deref.ensures.value, c.self.view_is) c.requires.operands
 
-pub invariant_of-self-2 : goal.invariant_of-self-2
-invariant_of-self-2 c = sound_hints c.self.invariant c.deref.ensures.value c.equal.ensures.hints
+pub invariant_of-self : goal.invariant_of-self
+invariant_of-self c = sound_hints c.self.invariant c.deref.ensures.value c.equal.ensures.hints
 
 pub returns-clause-value : goal.returns-clause-value
 returns-clause-value c = rw (← c.deref.ensures.value) c.equal.ensures.value

@@ -19,5 +19,5 @@ note_choice-requires-clause-out_in c = rw (c.deref.ensures.value, c.self.view_is
 pub note_choice-requires-clause-is : goal.note_choice-requires-clause-is
 note_choice-requires-clause-is c = rw (c.deref.ensures.value, c.self.view_is) c.requires.is
 
-pub invariant_of-self-2 : goal.invariant_of-self-2
-invariant_of-self-2 c = sound_hints c.self.invariant c.deref.ensures.value c.note_choice.ensures
+pub invariant_of-self : goal.invariant_of-self
+invariant_of-self c = sound_hints c.self.invariant c.deref.ensures.value c.note_choice.ensures.hints

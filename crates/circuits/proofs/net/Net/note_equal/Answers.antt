@@ -13,5 +13,5 @@ note_equal-requires-clause-operands c = rw (c.deref.ensures.value, c.self.view_i
 pub note_equal-requires-clause-tells : goal.note_equal-requires-clause-tells
 note_equal-requires-clause-tells c = rw (c.deref.ensures.value, c.self.view_is) c.requires.tells
 
-pub invariant_of-self-2 : goal.invariant_of-self-2
-invariant_of-self-2 c = sound_hints c.self.invariant c.deref.ensures.value c.note_equal.ensures
+pub invariant_of-self : goal.invariant_of-self
+invariant_of-self c = sound_hints c.self.invariant c.deref.ensures.value c.note_equal.ensures.hints
