@@ -68,8 +68,8 @@ grown_then j k n a b c p q h = record {
   few = omega (arith, length-append p.more q.more, p.few, q.few);
 }
 
-pub in_later : {most : ℕ} {old new : List NetNode} {b : Bit} → Grown most old new → IsIn old b → IsIn new b
-in_later {most} {old} {new} {b} g h = omega (arith, h, ap length g.is, length-append old g.more)
+pub in_later : {most : ℕ} {old new : List NetNode} (b : Bit) → Grown most old new → IsIn old b → IsIn new b
+in_later {most} {old} {new} b g h = omega (arith, h, ap length g.is, length-append old g.more)
 
 pub wider : {j n : ℕ} {a b : List NetNode} → Grown j a b → j ≤ n → Grown n a b
 wider {j} {n} {a} {b} g h = record { more = g.more; is = g.is; gates = g.gates; few = omega (arith, g.few) }

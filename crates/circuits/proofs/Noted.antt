@@ -1,6 +1,7 @@
 -- What circuits let the hints know.
 use Rattle.std.proofs.Common.{◌≡◌, ℕ, ◌+◌, ◌-◌, ◌*◌, ◌%◌, ◌^◌, ◌<◌, ◌≤◌, Bool, true, false, cond, not, ◌&&◌, nat_eq, ℤ, ◌+ℤ◌, ◌-ℤ◌, ◌*ℤ◌, List, length, take, refl, sym, ◌∙◌, ap, subst, arith}
 use Rattle.std.proofs.lemmas.Nat.{pow_pos, mod_below}
+use Rattle.std.proofs.Math.Nat.{add-mul-mod_self_right}
 use Rattle.std.specs.Ordering.{int_eq}
 use Rattle.c_core.specs.Types.{width_of, is_signed, promote_of, in_range, residue, fit}
 use Rattle.c_core.specs.Operators.{apply_of, exact}
@@ -9,7 +10,7 @@ use Rattle.c_core.specs.declared.number.IntType.{IntType}
 use Rattle.c_core.specs.declared.number.BinOp.TheVariants.{Add, Sub, Mul}
 use Rattle.c_core.specs.declared.number.Done.TheVariants.{Value, Overflow}
 use Rattle.polynomials.specs.Values.{Same}
-use Rattle.polynomials.proofs.Sameness.{same_refl, same_by, same_sym, same_trans, same_add, same_mod, same_whole, same_cancel}
+use Rattle.polynomials.proofs.Sameness.{same_refl, same_by, same_sym, same_trans, same_add, same_mod, same_cancel}
 use Rattle.circuits.specs.declared.net.Bit.{Bit}
 use Rattle.circuits.specs.declared.net.NetNode.{NetNode}
 use Rattle.circuits.specs.declared.bits.Outcome.{Outcome}
@@ -72,6 +73,11 @@ sum_noted {m} {ty} {old} {mid} {o} {out} {most} a b p g ha hb given e =
     (λ v. same_trans (same_by (residue_sum w (is_signed ty) (number v old a) (number v old b) (counts_lt (typed_counts ha) v) (counts_lt (typed_counts hb) v)))
     (same_trans (same_mod w (number v old a + number v old b))
     (same_by (omega (arith, number_stays v most old mid a g ha.inside, number_stays v most old mid b g hb.inside)))))
+
+same_whole : (w k : ℕ) → Same w (k * 2 ^ w) 0
+same_whole w k =
+    let e : k * 2 ^ w ≡ 0 + k * 2 ^ w = omega arith in
+    record { is = ap (λ n. n % 2 ^ w) e ∙ add-mul-mod_self_right 0 k (2 ^ w) }
 
 wraps : (w m n : ℕ) → w ≤ 64 → n < 2 ^ w → Same w (m + (2 ^ w - n)) (m + 18446744073709551615 * n)
 wraps w m n h l =
@@ -148,10 +154,10 @@ pub chosen_operands : {most : ℕ} {old new : List NetNode} {a b xs ys : List Bi
 chosen_operands {most} {old} {new} {a} {b} {xs} {ys} g ea eb ha hb e l =
     rw (ea, eb) (record { left = are_in_later most old new xs g ha; right = are_in_later most old new ys g hb; same = e; wide = l })
 
-pub choice_noted : {old mid : List NetNode} {out a b xs ys : List Bit} {t : Bit} {most n : ℕ} → Grown most old mid → IsIn old t → a ≡ xs → b ≡ ys → AreIn old xs → AreIn old ys
+pub choice_noted : {old mid : List NetNode} {out a b xs ys : List Bit} {most n : ℕ} (t : Bit) → Grown most old mid → IsIn old t → a ≡ xs → b ≡ ys → AreIn old xs → AreIn old ys
     → Counts mid out n (λ v. cond (holds v old t) (number v old a) (number v old b))
     → (v : ℕ → Bool) → number v mid out ≡ cond (holds v mid t) (number v mid a) (number v mid b)
-choice_noted {old} {mid} {out} {a} {b} {xs} {ys} {t} {most} {n} g ht ea eb hx hy c v =
+choice_noted {old} {mid} {out} {a} {b} {xs} {ys} {most} {n} t g ht ea eb hx hy c v =
     let ha : AreIn old a = rw ea hx in
     let hb : AreIn old b = rw eb hy in
     c.is v
@@ -159,10 +165,10 @@ choice_noted {old} {mid} {out} {a} {b} {xs} {ys} {t} {most} {n} g ht ea eb hx hy
     ∙ ap (λ k. cond (holds v mid t) k (number v old b)) (sym (number_stays v most old mid a g ha))
     ∙ ap (λ k. cond (holds v mid t) (number v mid a) k) (sym (number_stays v most old mid b g hb))
 
-pub chosen_later : {old new last : List NetNode} {out bits a b xs ys : List Bit} {t : Bit} → last ≡ new → bits ≡ out → a ≡ xs → b ≡ ys
+pub chosen_later : {old new last : List NetNode} {out bits a b xs ys : List Bit} (t : Bit) → last ≡ new → bits ≡ out → a ≡ xs → b ≡ ys
     → Counts new out (length a) (λ v. cond (holds v old t) (number v old a) (number v old b))
     → Counts last bits (length xs) (λ v. cond (holds v old t) (number v old xs) (number v old ys))
-chosen_later {old} {new} {last} {out} {bits} {a} {b} {xs} {ys} {t} e eo ea eb c = rw (e, eo, ← ea, ← eb) c
+chosen_later {old} {new} {last} {out} {bits} {a} {b} {xs} {ys} t e eo ea eb c = rw (e, eo, ← ea, ← eb) c
 
 pub cut_counts : {m : DataModel} {ty : IntType} {net : List NetNode} {out low all : List Bit} (a : List Bit) (n : ℕ) → AreTyped m ty net a → n ≤ length a → out ≡ low → low ≡ take n all → all ≡ a
     → Counts net out n (λ v. number v net a % 2 ^ n)
@@ -196,9 +202,9 @@ differ_noted {m} {ty} {most} {old} {mid} {new} {r} {x} a b e g ha hb means turne
     ∙ ap (λ k. nat_eq k (number v mid b)) (sym (number_stays v most mid new a g ia.inside))
     ∙ ap (λ k. nat_eq (number v new a) k) (sym (number_stays v most mid new b g ib.inside)))
 
-pub differ_after : {m : DataModel} {ty : IntType} {old mid new last : List NetNode} {r : Bit} (a b : List Bit) → mid ≡ old → last ≡ new
+pub differ_after : {old mid new last : List NetNode} {r : Bit} (m : DataModel) (ty : IntType) (a b : List Bit) → mid ≡ old → last ≡ new
     → Means new r (λ v. not (int_eq (typed m ty v mid a) (typed m ty v mid b))) → Means last r (λ v. not (int_eq (typed m ty v old a) (typed m ty v old b)))
-differ_after {m} {ty} {old} {mid} {new} {last} {r} a b e f means = rw (f, ← e) means
+differ_after {old} {mid} {new} {last} {r} m ty a b e f means = rw (f, ← e) means
 
 -- the number 0 beside another
 pub zero_operands : {net : List NetNode} {zero : List Bit} (a : List Bit) → AreIn net a → length a ≤ 64 → Counts net zero (length a) (λ v. 0) → AreOperands net a zero

@@ -7,8 +7,8 @@ use Rattle.circuits.proofs.lists.nonzero.Goals as goal
 pub returns-in_err-zero-clause-grown : goal.returns-in_err-zero-clause-grown
 returns-in_err-zero-clause-grown c = grown_not _ _
 
-pub known_equal-requires-clause-operands : goal.known_equal-requires-clause-operands
-known_equal-requires-clause-operands c = zero_operands _ c.requires.bits_in c.requires.few (counts_same c.deref.ensures.value c.in_ok-zero.ensures)
+pub known_equal-requires : goal.known_equal-requires
+known_equal-requires c = record { operands = zero_operands _ c.requires.bits_in c.requires.few (counts_same c.deref.ensures.value c.in_ok-zero.ensures) }
 
 pub returns-in-Some-clause-grown : goal.returns-in-Some-clause-grown
 returns-in-Some-clause-grown c = grown_same c.known_equal.ensures.same

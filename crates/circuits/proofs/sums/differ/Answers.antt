@@ -2,8 +2,8 @@ use Rattle.circuits.proofs.Nets.{grown_same, grown_from, grown_until}
 use Rattle.circuits.proofs.Noted.{typed_later, operands_of, known_differ, differ_noted, differ_after}
 use Rattle.circuits.proofs.sums.differ.Goals as goal
 
-pub known_equal-requires-clause-operands : goal.known_equal-requires-clause-operands
-known_equal-requires-clause-operands c = operands_of c.requires.a_in c.requires.b_in
+pub known_equal-requires : goal.known_equal-requires
+known_equal-requires c = record { operands = operands_of c.requires.a_in c.requires.b_in }
 
 pub returns-in-Some-clause-grown : goal.returns-in-Some-clause-grown
 returns-in-Some-clause-grown c = grown_same c.known_equal.ensures.same
@@ -36,4 +36,4 @@ pub returns-clause-grown : goal.returns-clause-grown
 returns-clause-grown c = grown_until c.note_equal.ensures (grown_from c.known_equal.ensures.same c.in_ok-differ.ensures.grown)
 
 pub returns-clause-value : goal.returns-clause-value
-returns-clause-value c = differ_after _ _ c.known_equal.ensures.same c.note_equal.ensures c.in_ok-differ.ensures.value
+returns-clause-value c = differ_after _ _ _ _ c.known_equal.ensures.same c.note_equal.ensures c.in_ok-differ.ensures.value
