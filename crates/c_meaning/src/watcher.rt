@@ -44,8 +44,8 @@ pub trait Watcher {
         ensures refused { OnErr result (seen self.new ≡ seen self.old) }
         ensures succeeds { sure → IsOk result };
 
-    /// Takes an event of which nothing but its place matters, and not even the live cells; `false` where more may
-    /// matter, and then nothing has changed.
+    /// Takes an event by its place alone, where whatever else the event is, and whichever cells are live, makes no
+    /// difference; `false` where it may, and then nothing has changed.
     fn skips(&mut self, spot: Spot) -> bool
         ensures taken { result ≡ true → (event : Event) (cells : List Cell) → event_spot event ≡ Some spot
             → seen self.new ≡ after event cells (seen self.old) }

@@ -75,7 +75,7 @@ impl Control {
     }
 }
 
-/// Shows the watcher an event, or where it came alone.
+/// Shows the watcher an event: its place alone, where that suffices, or else the event.
 #[inline(always)]
 pub fn show<W: Watcher>(run: &Running, watcher: &mut W, event: Event) -> Result<(), OutOfMemory>
     ensures seen { OnOk result (W.seen watcher.new ≡ W.after event run.now.memory.cells (W.seen watcher.old)) }

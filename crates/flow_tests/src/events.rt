@@ -48,7 +48,7 @@ impl Watcher for Events {
         Ok(())
     }
 
-    // each event matters
+    // no event is left out
     fn skips(&mut self, _spot: Spot) -> bool {
         false
     }

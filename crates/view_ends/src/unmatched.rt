@@ -5,8 +5,8 @@ use c_meaning::Event;
 use std::alloc::Global;
 use view_paths::{place_of_path, steps_of, waypoint_path};
 use view_runs::{
-    Avoided, Tracker, Waiting, comings_text, event_spot, number_in_segment, number_of_follow,
-    place_text, spot_of, times_text, values_text, waypoint_text,
+    Avoided, Tracker, Waiting, comings_text, number_in_segment, number_of_follow, place_text,
+    shown_spot, spot_of, times_text, values_text, waypoint_text,
 };
 use view_text::{File, Files, Messages};
 use way_match::Point;
@@ -192,7 +192,7 @@ fn note_avoided(
     };
     let number = number_in_segment(segment, follow, avoided.at);
     let told = avoided_text(alloc, tracker, at, number, waypoint, avoided)?;
-    let spot = event_spot(avoided.coming.event);
+    let spot = shown_spot(avoided.coming.event);
     out.note(File::Program, Some(spot), told)?;
     note_waypoint(
         alloc,
@@ -217,7 +217,7 @@ fn avoided_of<'t>(tracker: &'t Tracker<'_>, at: usize) -> Option<&'t Avoided> {
 /// Where the run violated the property.
 fn violation_spot(violation: Option<Event>) -> Option<Spot> {
     match violation {
-        Some(event) => Some(event_spot(event)),
+        Some(event) => Some(shown_spot(event)),
         None => None,
     }
 }

@@ -20,4 +20,4 @@ pub use spelled::{
     declared_at, invariant_word, is_same_spot, place_text, spot_of, times_text, type_word,
     way_word, waypoint_text,
 };
-pub use tracker::{Tracker, event_spot};
+pub use tracker::{Tracker, shown_spot};

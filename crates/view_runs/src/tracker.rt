@@ -52,8 +52,8 @@ fn gives_input(index: &Index, event: Event) -> bool {
     }
 }
 
-/// The place of an event.
-pub fn event_spot(event: Event) -> Spot {
+/// The place that is shown of an event: that of a failure is its call or else its full expression.
+pub fn shown_spot(event: Event) -> Spot {
     match event {
         Event::At(spot) => spot,
         Event::Branch(spot, _) => spot,
@@ -122,7 +122,7 @@ impl<'a> Tracker<'a> {
     /// Keeps the place of an event that is wanted; two neighbours may be passed by one event.
     fn keep(&mut self, event: Event) -> Result<(), OutOfMemory> {
         let wanted = self.wanted;
-        let spot = event_spot(event);
+        let spot = shown_spot(event);
         for number in wanted.get(self.found.len()..).unwrap_or(&[]) {
             if *number != self.events {
                 break;
@@ -181,7 +181,7 @@ impl<'a> Watcher for Tracker<'a> {
         Ok(())
     }
 
-    // each event matters
+    // no event is left out
     fn skips(&mut self, _spot: Spot) -> bool {
         false
     }

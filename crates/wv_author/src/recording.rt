@@ -102,7 +102,7 @@ impl<'a> Watcher for Recorder<'a> {
         Ok(())
     }
 
-    // each event matters
+    // no event is left out
     fn skips(&mut self, _spot: Spot) -> bool {
         false
     }
