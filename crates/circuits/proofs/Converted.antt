@@ -78,7 +78,7 @@ range_back : (w : ℕ) (s : Bool) (v : ℤ) → 0 < w → cond s (fits_signed w 
 range_back w true v hw e = signed_back w v hw e
 range_back w false v hw e = unsigned_back w v e
 
-residue_lt : (w : ℕ) (v : ℤ) → residue w v < 2 ^ w
+pub residue_lt : (w : ℕ) (v : ℤ) → residue w v < 2 ^ w
 unfolding residue
 residue_lt w (pos n) = mod_below n (2 ^ w) (pow_pos w)
 residue_lt w (negsuc n) = omega (arith, pow_pos w)

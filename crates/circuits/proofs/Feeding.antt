@@ -30,13 +30,13 @@ fed_more {n} {old} {mid} {new} k f e = record {
 }
 
 -- bits of a net, in that net with further nodes
-in_more : (net more : List NetNode) (xs : List Bit) → AreIn net xs → AreIn (net ++ more) xs
+pub in_more : (net more : List NetNode) (xs : List Bit) → AreIn net xs → AreIn (net ++ more) xs
 in_more net more [] h = in_none (λ b. IsIn (net ++ more) b)
 in_more net more (x ∷ xs) h =
     let hx : IsIn net x = All-head (λ b. IsIn net b) x xs h in
     All-cons (λ b. IsIn (net ++ more) b) x xs (omega (arith, hx, length-append net more)) (in_more net more xs (All-tail (λ b. IsIn net b) x xs h))
 
-number_more : (v : ℕ → Bool) (net more : List NetNode) (xs : List Bit) → AreIn net xs → number v (net ++ more) xs ≡ number v net xs
+pub number_more : (v : ℕ → Bool) (net more : List NetNode) (xs : List Bit) → AreIn net xs → number v (net ++ more) xs ≡ number v net xs
 unfolding number
 number_more v net more [] h = refl
 number_more v net more (x ∷ xs) h = omega (arith, number_more v net more xs (All-tail (λ b. IsIn net b) x xs h), ap digit (holds-append v net more x (All-head (λ b. IsIn net b) x xs h)))

@@ -20,3 +20,9 @@ pub mod Raising
 pub mod Moved
 pub mod Placed
 pub mod Feeding
+pub mod WordLaws
+pub mod Sound
+pub mod Noted
+pub mod Congruence
+pub mod HintLaws
+pub mod Unknowns

@@ -5,7 +5,7 @@ use Rattle.std.proofs.Math.Seq.{get_or-append_seam}
 use Rattle.circuits.specs.declared.net.Bit.{Bit}
 use Rattle.circuits.specs.declared.net.NetNode.{NetNode}
 use Rattle.circuits.specs.declared.net.NetNode.TheVariants.{Constant, Input, And}
-use Rattle.circuits.specs.Net.{xor, bit_in, node_in, values_from, holds, opposite, count_ands, count_inputs, Grown, Means, IsFine, AreFine, IsNet, IsCounted, Folds, IsIn}
+use Rattle.circuits.specs.Net.{xor, bit_in, node_in, values_from, holds, opposite, count_ands, count_inputs, Grown, Means, IsFine, AreFine, IsNet, Folds, IsIn}
 
 pub values_from-append : (v : ℕ → Bool) (vs : List Bool) (xs ys : List NetNode) → values_from v vs (xs ++ ys) ≡ values_from v (values_from v vs xs) ys
 unfolding values_from
@@ -50,6 +50,16 @@ pub grown_not : (most : ℕ) (net : List NetNode) → Grown most net net
 unfolding count_ands
 grown_not most net = record { more = []; is = sym (append-nil net); gates = refl; few = omega arith }
 
+pub grown_same : {most : ℕ} {old new : List NetNode} → new ≡ old → Grown most old new
+grown_same {most} {old} {new} e = rw e (grown_not most old)
+
+-- from a net by another name, and to one
+pub grown_from : {most : ℕ} {old mid new : List NetNode} → mid ≡ old → Grown most mid new → Grown most old new
+grown_from {most} {old} {mid} {new} e g = rw (← e) g
+
+pub grown_until : {most : ℕ} {old new last : List NetNode} → last ≡ new → Grown most old new → Grown most old last
+grown_until {most} {old} {new} {last} e g = rw e g
+
 pub grown_then : (j k n : ℕ) (a b c : List NetNode) → Grown j a b → Grown k b c → j + k ≤ n → Grown n a c
 grown_then j k n a b c p q h = record {
   more = p.more ++ q.more;
@@ -57,6 +67,9 @@ grown_then j k n a b c p q h = record {
   gates = omega (arith, count_ands-append p.more q.more, length-append p.more q.more, p.gates, q.gates);
   few = omega (arith, length-append p.more q.more, p.few, q.few);
 }
+
+pub in_later : {most : ℕ} {old new : List NetNode} (b : Bit) → Grown most old new → IsIn old b → IsIn new b
+in_later {most} {old} {new} b g h = omega (arith, h, ap length g.is, length-append old g.more)
 
 pub wider : {j n : ℕ} {a b : List NetNode} → Grown j a b → j ≤ n → Grown n a b
 wider {j} {n} {a} {b} g h = record { more = g.more; is = g.is; gates = g.gates; few = omega (arith, g.few) }
@@ -173,18 +186,6 @@ counted net h = omega (arith, counted_from 1 0 h.0 h.2, ap count_ands h.1, ap co
 pub grown_pushed : (net : List NetNode) (a b : Bit) → Grown 1 net (net ++ And a b ∷ [])
 unfolding count_ands
 grown_pushed net a b = record { more = And a b ∷ []; is = refl; gates = refl; few = omega arith }
-
-pub counted_and : (net : List NetNode) (k : ℕ) (a b : Bit) → IsCounted net k → IsFine (length net) (count_inputs net) (And a b) → IsCounted (net ++ And a b ∷ []) k
-unfolding count_inputs
-counted_and net k a b h f = record { fine = IsNet-push net (And a b) h.fine f; is = omega (arith, h.is, inputs-append net (And a b ∷ [])) }
-
-pub counted_input : (net : List NetNode) (k : ℕ) → IsCounted net k → IsCounted (net ++ Input k ∷ []) (k + 1)
-unfolding count_inputs
-counted_input net k h = record { fine = IsNet-push net (Input k) h.fine h.is; is = omega (arith, h.is, inputs-append net (Input k ∷ [])) }
-
-pub counted_new : (net : List NetNode) → net ≡ Constant true ∷ [] → IsCounted net 0
-unfolding count_inputs AreFine
-counted_new net e = record { fine = ([], e, tt); is = sym (ap count_inputs e) }
 
 pub input_added : {new items now : List NetNode} {k : ℕ} → new ≡ items ++ Input k ∷ [] → items ≡ now → k ≡ count_inputs items → new ≡ now ++ Input (count_inputs now) ∷ []
 input_added {new} {items} {now} {k} e f h = e ∙ ap (λ l. l ++ Input k ∷ []) f ∙ ap (λ j. now ++ Input j ∷ []) (h ∙ ap count_inputs f)

@@ -186,3 +186,11 @@ read_equal w s m n hm hn = same_from_decides (nat_eq (bit_xor m n) 0) (int_eq (r
   (λ z. eq-eqb (bit_xor m n) 0 (ap (bit_xor m) (sym (sym (residue_read w s m hm) ∙ ap (residue w) z ∙ residue_read w s n hn)) ∙ xor_self m)),
 )
     (Decides-int_eq (read w s m) (read w s n))
+
+-- numbers are equal as they are read
+pub equal_read : (w : ℕ) (s : Bool) (m n : ℕ) → m < 2 ^ w → n < 2 ^ w → nat_eq m n ≡ int_eq (read w s m) (read w s n)
+equal_read w s m n hm hn = same_from_decides (nat_eq m n) (int_eq (read w s m) (read w s n)) (
+  (λ z. ap (read w s) (eqb-true m n z)),
+  (λ z. eq-eqb m n (sym (residue_read w s m hm) ∙ ap (residue w) z ∙ residue_read w s n hn)),
+)
+    (Decides-int_eq (read w s m) (read w s n))

@@ -4,3 +4,4 @@ pub mod Numbers
 pub mod Outcome
 pub mod Gates
 pub mod Division
+pub mod Words

@@ -86,11 +86,6 @@ AreFine at before (n ∷ ns) = IsFine at before n × AreFine (at + 1) (count_inp
 abbrev pub IsNet : List NetNode → Type 0
 IsNet net = (rest : List NetNode) × (net ≡ Constant true ∷ rest) × AreFine 1 0 rest
 
--- a net and the number of its inputs
-pub record IsCounted (net : List NetNode) (counted : ℕ) : Type 0 where
-  pub fine : IsNet net
-  pub is : counted ≡ count_inputs net
-
 -- a conjunction that needs no node: of a constant, or of equal or opposite bits
 abbrev pub IsFolded : Bit → Bit → Type 0
 IsFolded a b = (a.node ≡ 0) ⊎ ((b.node ≡ 0) ⊎ (a.node ≡ b.node))

@@ -80,7 +80,10 @@ pub fn choose_bits(
     ensures value { IfOk result (λ r. Counts net.new r.bits (length yes.now.bits)
         (λ v. cond (holds v net.old test) (number v net.old yes.now.bits) (number v net.old no.now.bits))) }
 {
-    let out = choose(alloc, net, test, yes.bits.as_slice(), no.bits.as_slice())?;
+    let x = yes.bits.as_slice();
+    let y = no.bits.as_slice();
+    let out = choose(alloc, net, test, x, y)?;
+    net.note_choice(alloc, test, x, y, &out);
     let bits = Seq::from_vec(out);
     Ok(Bits { bits })
 }

@@ -5,7 +5,7 @@ ghost use Rattle.circuits.specs.Net.{holds, Grown, Means, IsIn};
 ghost use Rattle.circuits.specs.Numbers.{number, digit, typed, AreIn, AreTyped, Counts, Reads};
 ghost use Rattle.circuits.specs.Outcome.{conversion_cost};
 
-use crate::lists::{any, copied, joined};
+use crate::lists::{copied, joined, nonzero};
 use crate::signs::sign;
 use crate::types::width;
 use crate::{Bit, Net, not};
@@ -93,20 +93,23 @@ fn repeated(alloc: Global, net: &Net, bit: Bit, n: usize) -> Result<Vec<Bit>, Ou
 /// The digits in a type other than `_Bool`: the lowest, or all with the sign before them.
 fn resized(
     alloc: Global,
-    net: &Net,
+    net: &mut Net,
     model: DataModel,
     from: IntType,
     to: IntType,
     a: &[Bit],
 ) -> Result<Vec<Bit>, OutOfMemory>
-    requires a_in { AreTyped model from net.now a.now }
+    requires a_in { AreTyped model from net.old a.now }
     requires other { to ≡ IntType.Bool → ⊥ }
-    ensures { IfOk result (λ r. Reads model to net.now r.items (λ v. fit model to (typed model from v net.now a.now))) }
+    ensures same { net.new ≡ net.old }
+    ensures value { IfOk result (λ r. Reads model to net.new r.items
+        (λ v. fit model to (typed model from v net.old a.now))) }
 {
     let n = width(model, to);
     if n <= a.len() {
         let mut low = copied(alloc, a)?;
         low.truncate(n);
+        net.note_cut(alloc, a, &low);
         return Ok(low);
     }
     let top = sign(net, from, a);
@@ -137,7 +140,7 @@ pub fn converted(
                 Ok(out)
             }
             _ => {
-                let some = any(net, a)?;
+                let some = nonzero(alloc, net, a)?;
                 let mut out = Vec::new(alloc);
                 out.push(some)?;
                 Ok(out)

@@ -64,6 +64,23 @@ pub fn any(net: &mut Net, bits: &[Bit]) -> Result<Bit, OutOfMemory>
     Ok(not(none))
 }
 
+/// The same, by a bit that tells it already where one is known.
+pub fn nonzero(alloc: Global, net: &mut Net, bits: &[Bit]) -> Result<Bit, OutOfMemory>
+    requires bits_in { AreIn net.old bits.now }
+    requires few { length bits.now ≤ 64 }
+    requires room { length net.old + length bits.now ≤ 2 ^ 31 }
+    ensures grown { Grown (length bits.now) net.old net.new }
+    ensures value { IfOk result (λ r. Means net.new r (λ v. not (nat_eq (number v net.old bits.now) 0))) }
+{
+    let zero = zeros(alloc, net, bits.len())?;
+    if let Some(equal) = net.known_equal(alloc, bits, &zero) {
+        return Ok(not(equal));
+    }
+    let some = any(net, bits)?;
+    net.note_equal(alloc, bits, &zero, not(some));
+    Ok(some)
+}
+
 /// `yes` where the test is true, else `other`.
 pub fn choose(
     alloc: Global,

@@ -1,8 +1,12 @@
 // Nets of and-nodes.
-ghost use Rattle.std.specs.Prelude.{◌≡◌, ℕ, ◌+◌, ◌<◌, ◌^◌, IfOk, IfErr, MatchOption, true, ◌&&◌, Some, length, false, slice_get, slice_index_or, ◌++◌, ◌∷◌, []};
+ghost use Rattle.std.specs.Prelude.{◌≡◌, ℕ, Bool, ◌+◌, ◌*◌, ◌<◌, ◌≤◌, ◌^◌, IfOk, IfErr, IfSome, MatchOption, true, ◌&&◌, Some, cond, length, nat_eq, false, slice_get, slice_index_or, ◌++◌, ◌∷◌, []};
+ghost use Rattle.polynomials.specs.Values.{Same};
 ghost use Rattle.circuits.specs.declared.net.NetNode.TheVariants.{Constant, Input};
+ghost use Rattle.circuits.specs.Numbers.{number, AreIn};
+ghost use Rattle.circuits.specs.Words.{AreOperands};
 ghost use Rattle.circuits.specs.Net.{holds, opposite, Grown, Means, IsIn, IsNet, IsFolded, Folds, Stands, bit_in, node_in, values_of, count_ands, count_inputs};
 
+use crate::hints::Hints;
 use crate::shared::Shared;
 use std::alloc::Global;
 use std::marker::Model;
@@ -29,18 +33,19 @@ pub struct Net {
     nodes: Vec<NetNode>,
     inputs: u32,
     shared: Shared,
+    hints: Hints,
 }
 
 impl Model for Net {
     ghost use Rattle.std.specs.Prelude.{List};
     ghost use Rattle.circuits.specs.declared.net.NetNode.{NetNode};
-    ghost use Rattle.circuits.specs.Net.{IsCounted};
+    ghost use Rattle.circuits.specs.Words.{IsSound};
 
     ghost Value = { List NetNode };
 
     ghost view = { λ n. n.nodes.items };
 
-    ghost invariant = { λ n. IsCounted n.nodes.items n.inputs };
+    ghost invariant = { λ n. IsSound n.nodes.items n.inputs n.hints };
 }
 
 /// The bit whose value is the opposite.
@@ -84,6 +89,7 @@ impl Net {
             nodes,
             inputs: 0,
             shared: Shared::new(alloc),
+            hints: Hints::new(alloc),
         })
     }
 
@@ -187,6 +193,83 @@ impl Net {
         self.nodes.push(NetNode::And(a, b))?;
         self.shared.add(&self.nodes, node, a, b);
         Ok(Bit { node, negated })
+    }
+
+    /// Keeps in mind that bits are a + coefficient * b: sums where it is 1, differences where it is 2^64 - 1.
+    pub fn note_combined(
+        &mut self,
+        alloc: Global,
+        a: &[Bit],
+        coefficient: u64,
+        b: &[Bit],
+        out: &[Bit],
+    )
+        requires operands { AreOperands self.old a.now b.now }
+        requires out_in { AreIn self.old out.now }
+        requires wide { length out.now ≡ length a.now }
+        requires is { (v : ℕ → Bool) → Same (length out.now) (number v self.old out.now)
+            (number v self.old a.now + coefficient * number v self.old b.now) }
+        ensures { self.new ≡ self.old }
+    {
+        self.hints
+            .note_combined(alloc, &self.nodes, a, coefficient, b, out);
+    }
+
+    /// Keeps in mind that bits are a * b.
+    pub fn note_product(&mut self, alloc: Global, a: &[Bit], b: &[Bit], out: &[Bit])
+        requires operands { AreOperands self.old a.now b.now }
+        requires out_in { AreIn self.old out.now }
+        requires wide { length out.now ≡ length a.now }
+        requires is { (v : ℕ → Bool) → Same (length out.now) (number v self.old out.now)
+            (number v self.old a.now * number v self.old b.now) }
+        ensures { self.new ≡ self.old }
+    {
+        self.hints.note_product(alloc, &self.nodes, a, b, out);
+    }
+
+    /// Keeps in mind that bits are `yes` where the test is true, else `no`.
+    pub fn note_choice(&mut self, alloc: Global, test: Bit, yes: &[Bit], no: &[Bit], out: &[Bit])
+        requires test_in { IsIn self.old test }
+        requires operands { AreOperands self.old yes.now no.now }
+        requires out_in { AreIn self.old out.now }
+        requires wide { length out.now ≡ length yes.now }
+        requires is { (v : ℕ → Bool) → number v self.old out.now
+            ≡ cond (holds v self.old test) (number v self.old yes.now) (number v self.old no.now) }
+        ensures { self.new ≡ self.old }
+    {
+        self.hints
+            .note_choice(alloc, &self.nodes, test, yes, no, out);
+    }
+
+    /// Keeps in mind that bits are the lowest digits of a word.
+    pub fn note_cut(&mut self, alloc: Global, whole: &[Bit], out: &[Bit])
+        requires whole_in { AreIn self.old whole.now }
+        requires few { length whole.now ≤ 64 }
+        requires out_in { AreIn self.old out.now }
+        requires wide { length out.now ≤ length whole.now }
+        requires is { (v : ℕ → Bool) → Same (length out.now) (number v self.old out.now) (number v self.old whole.now) }
+        ensures { self.new ≡ self.old }
+    {
+        self.hints.note_cut(alloc, &self.nodes, whole, out);
+    }
+
+    /// A bit that tells whether two numbers are equal, where one is known.
+    pub fn known_equal(&mut self, alloc: Global, a: &[Bit], b: &[Bit]) -> Option<Bit>
+        requires operands { AreOperands self.old a.now b.now }
+        ensures same { self.new ≡ self.old }
+        ensures value { IfSome result (λ r. Means self.new r
+            (λ v. nat_eq (number v self.new a.now) (number v self.new b.now))) }
+    {
+        self.hints.equal(alloc, &self.nodes, a, b)
+    }
+
+    /// Keeps in mind that a bit tells whether two numbers are equal.
+    pub fn note_equal(&mut self, alloc: Global, a: &[Bit], b: &[Bit], bit: Bit)
+        requires operands { AreOperands self.old a.now b.now }
+        requires tells { Means self.old bit (λ v. nat_eq (number v self.old a.now) (number v self.old b.now)) }
+        ensures { self.new ≡ self.old }
+    {
+        self.hints.note_equal(alloc, &self.nodes, a, b, bit);
     }
 
     /// The values of all nodes where input k has the value `inputs[k]`, and inputs beyond the last are false.

@@ -100,8 +100,8 @@ fn size_of_product(
     Ok(out)
 }
 
-/// The product of two numbers in a type.
-pub fn multiply(
+// the product of two numbers in a type
+fn multiplied(
     alloc: Global,
     net: &mut Net,
     model: DataModel,
@@ -131,4 +131,26 @@ pub fn multiply(
         overflow,
         undefined: never,
     })
+}
+
+/// The product of two numbers in a type.
+pub fn multiply(
+    alloc: Global,
+    net: &mut Net,
+    model: DataModel,
+    ty: IntType,
+    a: &[Bit],
+    b: &[Bit],
+) -> Result<Outcome, OutOfMemory>
+    requires promoted { promote_of ty ≡ ty }
+    requires a_in { AreTyped model ty net.old a.now }
+    requires b_in { AreTyped model ty net.old b.now }
+    requires room { length net.old + 32 * width_of model ty ^ 2 ≤ 2 ^ 31 }
+    ensures grown { Grown (32 * width_of model ty ^ 2) net.old net.new }
+    ensures value { IfOk result (λ r. Gives model ty net.new r
+        (λ v. apply_of model Mul ty (typed model ty v net.old a.now) (typed model ty v net.old b.now))) }
+{
+    let out = multiplied(alloc, net, model, ty, a, b)?;
+    net.note_product(alloc, a, b, out.value.bits.as_slice());
+    Ok(out)
 }

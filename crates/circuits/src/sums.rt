@@ -32,8 +32,8 @@ fn turned(net: &mut Net, a: Bit, b: Bit, total: Bit) -> Result<Bit, OutOfMemory>
     Ok(turned)
 }
 
-/// A sum, and whether it overflows.
-pub fn add(
+// a sum, and whether it overflows
+fn added(
     alloc: Global,
     net: &mut Net,
     model: DataModel,
@@ -64,8 +64,30 @@ pub fn add(
     })
 }
 
-/// A difference, and whether it overflows.
-pub fn subtract(
+/// A sum, and whether it overflows.
+pub fn add(
+    alloc: Global,
+    net: &mut Net,
+    model: DataModel,
+    ty: IntType,
+    a: &[Bit],
+    b: &[Bit],
+) -> Result<Outcome, OutOfMemory>
+    requires promoted { promote_of ty ≡ ty }
+    requires a_in { AreTyped model ty net.old a.now }
+    requires b_in { AreTyped model ty net.old b.now }
+    requires room { length net.old + 16 * width_of model ty ≤ 2 ^ 31 }
+    ensures grown { Grown (16 * width_of model ty) net.old net.new }
+    ensures value { IfOk result (λ r. Gives model ty net.new r
+        (λ v. apply_of model Add ty (typed model ty v net.old a.now) (typed model ty v net.old b.now))) }
+{
+    let out = added(alloc, net, model, ty, a, b)?;
+    net.note_combined(alloc, a, 1, b, out.value.bits.as_slice());
+    Ok(out)
+}
+
+// a difference, and whether it overflows
+fn subtracted(
     alloc: Global,
     net: &mut Net,
     model: DataModel,
@@ -96,6 +118,28 @@ pub fn subtract(
     })
 }
 
+/// A difference, and whether it overflows.
+pub fn subtract(
+    alloc: Global,
+    net: &mut Net,
+    model: DataModel,
+    ty: IntType,
+    a: &[Bit],
+    b: &[Bit],
+) -> Result<Outcome, OutOfMemory>
+    requires promoted { promote_of ty ≡ ty }
+    requires a_in { AreTyped model ty net.old a.now }
+    requires b_in { AreTyped model ty net.old b.now }
+    requires room { length net.old + 16 * width_of model ty ≤ 2 ^ 31 }
+    ensures grown { Grown (16 * width_of model ty) net.old net.new }
+    ensures value { IfOk result (λ r. Gives model ty net.new r
+        (λ v. apply_of model Sub ty (typed model ty v net.old a.now) (typed model ty v net.old b.now))) }
+{
+    let out = subtracted(alloc, net, model, ty, a, b)?;
+    net.note_combined(alloc, a, u64::MAX, b, out.value.bits.as_slice());
+    Ok(out)
+}
+
 /// Whether a is below b.
 pub fn below(
     net: &mut Net,
@@ -120,8 +164,8 @@ pub fn below(
     Ok(below)
 }
 
-/// Whether a and b are different numbers.
-pub fn differ(
+// whether a and b are different numbers, bit by bit
+fn differ_in_bits(
     alloc: Global,
     net: &mut Net,
     model: DataModel,
@@ -138,5 +182,29 @@ pub fn differ(
 {
     let apart = bitwise(alloc, net, Gate::Xor, a, b)?;
     let differ = any(net, &apart)?;
+    Ok(differ)
+}
+
+/// Whether a and b are different numbers: by a bit that tells it already, where one is known.
+pub fn differ(
+    alloc: Global,
+    net: &mut Net,
+    model: DataModel,
+    ty: IntType,
+    a: &[Bit],
+    b: &[Bit],
+) -> Result<Bit, OutOfMemory>
+    requires a_in { AreTyped model ty net.old a.now }
+    requires b_in { AreTyped model ty net.old b.now }
+    requires room { length net.old + 16 * width_of model ty ≤ 2 ^ 31 }
+    ensures grown { Grown (16 * width_of model ty) net.old net.new }
+    ensures value { IfOk result (λ r. Means net.new r
+        (λ v. not (int_eq (typed model ty v net.old a.now) (typed model ty v net.old b.now)))) }
+{
+    if let Some(equal) = net.known_equal(alloc, a, b) {
+        return Ok(not(equal));
+    }
+    let differ = differ_in_bits(alloc, net, model, ty, a, b)?;
+    net.note_equal(alloc, a, b, not(differ));
     Ok(differ)
 }

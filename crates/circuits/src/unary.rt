@@ -8,7 +8,7 @@ ghost use Rattle.circuits.specs.Net.{Grown};
 ghost use Rattle.circuits.specs.Numbers.{typed, AreTyped};
 ghost use Rattle.circuits.specs.Outcome.{Gives, one_type, one_cost};
 
-use crate::lists::{any, copied, zeros};
+use crate::lists::{copied, nonzero, zeros};
 use crate::logic::{complement, truth_bits};
 use crate::sums::subtract;
 use crate::{Bit, Bits, Net, Outcome, not};
@@ -70,7 +70,7 @@ fn is_zero(
     ensures value { IfOk result (λ r. Gives model Int net.new r
         (λ v. apply_one_of model Not ty (typed model ty v net.old a.now))) }
 {
-    let some = any(net, a)?;
+    let some = nonzero(alloc, net, a)?;
     let out = truth_bits(alloc, net, model, not(some))?;
     Ok(out)
 }

@@ -1,28 +1,23 @@
-use Rattle.std.proofs.Common.{◌∙◌, take, ap, arith}
-use Rattle.circuits.proofs.Nets.{kept, opp, grown_then, wider}
-use Rattle.circuits.proofs.Counting.{counts_later}
-use Rattle.circuits.proofs.Carrying.{counts_same, low_counts, difference_of, sign_of, turned_of}
-use Rattle.circuits.proofs.Summed.{width_pos, typed_counts, difference_gives}
+use Rattle.std.proofs.Common.{◌∙◌, sym, ap, length}
+use Rattle.circuits.proofs.Noted.{typed_later, operands_of, difference_noted}
 use Rattle.circuits.proofs.sums.subtract.Goals as goal
 
-pub returns-clause-value : goal.returns-clause-value
-returns-clause-value c =
-    let ha = c.requires.a_in in
-    let hb = c.requires.b_in in
-    let g = c.in_ok-rest.ensures.grown in
-    let never = opp c.not-never.ensures c.yes.ensures in
-    let full = difference_of c.in_ok-rest.ensures.value (typed_counts ha) (typed_counts hb) in
-    let items = c.truncate.ensures.items ∙ ap (λ k. take k c.in_ok-rest.rest.items) ha.wide in
-    let left = sign_of _ c.sign-left.ensures (counts_later g (typed_counts ha)) in
-    let right = sign_of _ c.sign-right.ensures (counts_later g (typed_counts hb)) in
-    let made = sign_of _ c.sign-made.ensures (counts_same (c.deref.ensures.value ∙ items) (low_counts _ (omega arith) full)) in
-    difference_gives _ _ c.requires.promoted ha hb c.in_ok-overflow.ensures.grown full (turned_of c.in_ok-overflow.ensures.value left (opp c.not.ensures right) made) (c.from_vec-bits.ensures ∙ items) (kept c.in_ok-overflow.ensures.grown (kept g never))
+pub note_combined-requires-clause-operands : goal.note_combined-requires-clause-operands
+note_combined-requires-clause-operands c =
+    let g = c.in_ok-out.ensures.grown in
+    operands_of (typed_later g c.requires.a_in) (typed_later g c.requires.b_in)
 
-pub returns-in_err-rest-clause-grown : goal.returns-in_err-rest-clause-grown
-returns-in_err-rest-clause-grown c = wider c.in_err-rest.ensures.grown (omega (arith, c.requires.a_in.wide))
+pub note_combined-requires-clause-out_in : goal.note_combined-requires-clause-out_in
+note_combined-requires-clause-out_in c = rw c.as_slice.ensures c.in_ok-out.ensures.value.value.inside
 
-pub returns-in_err-overflow-clause-grown : goal.returns-in_err-overflow-clause-grown
-returns-in_err-overflow-clause-grown c = grown_then _ _ _ _ _ _ c.in_ok-rest.ensures.grown c.in_err-overflow.ensures.grown (omega (arith, c.requires.a_in.wide, width_pos c.args.model c.args.ty))
+pub note_combined-requires-clause-wide : goal.note_combined-requires-clause-wide
+note_combined-requires-clause-wide c = ap length c.as_slice.ensures ∙ c.in_ok-out.ensures.value.value.wide ∙ sym c.requires.a_in.wide
+
+pub note_combined-requires-clause-is : goal.note_combined-requires-clause-is
+note_combined-requires-clause-is c = difference_noted _ _ c.requires.promoted c.in_ok-out.ensures.grown c.requires.a_in c.requires.b_in c.in_ok-out.ensures.value c.as_slice.ensures
 
 pub returns-clause-grown : goal.returns-clause-grown
-returns-clause-grown c = grown_then _ _ _ _ _ _ c.in_ok-rest.ensures.grown c.in_ok-overflow.ensures.grown (omega (arith, c.requires.a_in.wide, width_pos c.args.model c.args.ty))
+returns-clause-grown c = rw c.note_combined.ensures c.in_ok-out.ensures.grown
+
+pub returns-clause-value : goal.returns-clause-value
+returns-clause-value c = rw c.note_combined.ensures c.in_ok-out.ensures.value

@@ -1,0 +1,313 @@
+// What is known of words beside the nodes of a net. Where memory or a limit stands in the way, less is known.
+ghost use Rattle.std.specs.Prelude.{◌≡◌, ℕ, Bool, ◌+◌, ◌*◌, ◌≤◌, ◌^◌, ◌%◌, IfSome, List, cond, length, nat_eq};
+ghost use Rattle.polynomials.specs.Calls.{Multiplies};
+ghost use Rattle.polynomials.specs.Values.{Same};
+ghost use Rattle.circuits.specs.declared.net.NetNode.{NetNode};
+ghost use Rattle.circuits.specs.Net.{holds, IsIn, IsNet, Means};
+ghost use Rattle.circuits.specs.Numbers.{digit, number, AreIn};
+ghost use Rattle.circuits.specs.Words.{AreOperands, AreTrue, Asks, Continues, Tells, bits_of};
+
+use crate::words::Words;
+use crate::zeros::Zeros;
+use crate::{Bit, NetNode};
+use polynomials::{Polynomial, multiply};
+use std::alloc::Global;
+
+/// Words with their polynomials, and bits that tell where polynomials are 0.
+#[derive(Drop)]
+pub struct Hints {
+    pub words: Words,
+    pub zeros: Zeros,
+}
+
+// the lowest digits of a number
+fn cut(width: u32, number: u64) -> u64
+    requires { width ≤ 64 }
+    ensures { result ≡ number % 2 ^ width }
+{
+    if width == 64 {
+        number
+    } else {
+        number % (1u64 << width)
+    }
+}
+
+// the product, where memory and the limits on polynomials allow it
+fn times(alloc: Global, width: u32, p: &Polynomial, q: &Polynomial) -> Option<Polynomial>
+    requires { width ≤ 64 }
+    ensures { IfSome result (λ m. Multiplies width p.now q.now m) }
+{
+    match multiply(alloc, width, p, q) {
+        Ok(Some(product)) => Some(product),
+        _ => None,
+    }
+}
+
+impl Hints {
+    /// Nothing is known.
+    pub fn new(alloc: Global) -> Hints
+        ensures { (nodes : List NetNode) → AreTrue nodes result }
+    {
+        Hints {
+            words: Words::new(alloc),
+            zeros: Zeros::new(alloc),
+        }
+    }
+
+    // a polynomial that tells the number of bits
+    fn told(&mut self, alloc: Global, nodes: &[NetNode], bits: &[Bit]) -> Option<Polynomial>
+        requires net { IsNet nodes.now }
+        requires hints { AreTrue nodes.now self.old }
+        requires bits_in { AreIn nodes.now bits.now }
+        requires wide { length bits.now ≤ 64 }
+        ensures hints { AreTrue nodes.now self.new }
+        ensures more { Continues self.old.words.list.items self.new.words.list.items }
+        ensures tells { IfSome result (λ p. Tells nodes.now (bits_of self.new.words.list.items) (length bits.now) p
+            (λ v. number v nodes.now bits.now)) }
+    {
+        self.words.polynomial(alloc, nodes, bits)
+    }
+
+    // a polynomial that tells whether a bit is true
+    fn truth(&mut self, alloc: Global, nodes: &[NetNode], bit: Bit) -> Option<Polynomial>
+        requires net { IsNet nodes.now }
+        requires hints { AreTrue nodes.now self.old }
+        requires bit_in { IsIn nodes.now bit }
+        ensures hints { AreTrue nodes.now self.new }
+        ensures more { Continues self.old.words.list.items self.new.words.list.items }
+        ensures tells { IfSome result (λ p. Tells nodes.now (bits_of self.new.words.list.items) 64 p
+            (λ v. digit (holds v nodes.now bit))) }
+    {
+        self.words.truth(alloc, nodes, bit)
+    }
+
+    // keeps a polynomial that tells the number of bits
+    fn note(&mut self, alloc: Global, nodes: &[NetNode], bits: &[Bit], polynomial: Polynomial)
+        requires hints { AreTrue nodes.now self.old }
+        requires bits_in { AreIn nodes.now bits.now }
+        requires wide { length bits.now ≤ 64 }
+        requires tells { Tells nodes.now (bits_of self.old.words.list.items) (length bits.now) polynomial
+            (λ v. number v nodes.now bits.now) }
+        ensures hints { AreTrue nodes.now self.new }
+    {
+        self.words.note(alloc, nodes, bits, polynomial);
+    }
+
+    // a + coefficient * b
+    fn combined(
+        &mut self,
+        alloc: Global,
+        nodes: &[NetNode],
+        a: &[Bit],
+        coefficient: u64,
+        b: &[Bit],
+    ) -> Option<Polynomial>
+        requires net { IsNet nodes.now }
+        requires hints { AreTrue nodes.now self.old }
+        requires operands { AreOperands nodes.now a.now b.now }
+        ensures hints { AreTrue nodes.now self.new }
+        ensures tells { IfSome result (λ p. Tells nodes.now (bits_of self.new.words.list.items) (length a.now) p
+            (λ v. number v nodes.now a.now + coefficient * number v nodes.now b.now)) }
+    {
+        let width = a.len() as u32;
+        let mut sum = self.told(alloc, nodes, a)?;
+        let other = self.told(alloc, nodes, b)?;
+        match sum.add_multiple(width, coefficient, [0; 6], &other) {
+            Ok(true) => Some(sum),
+            _ => None,
+        }
+    }
+
+    /// Bits are a + coefficient * b: sums where it is 1, differences where it is 2^64 - 1.
+    pub fn note_combined(
+        &mut self,
+        alloc: Global,
+        nodes: &[NetNode],
+        a: &[Bit],
+        coefficient: u64,
+        b: &[Bit],
+        out: &[Bit],
+    )
+        requires net { IsNet nodes.now }
+        requires hints { AreTrue nodes.now self.old }
+        requires operands { AreOperands nodes.now a.now b.now }
+        requires out_in { AreIn nodes.now out.now }
+        requires wide { length out.now ≡ length a.now }
+        requires is { (v : ℕ → Bool) → Same (length out.now) (number v nodes.now out.now)
+            (number v nodes.now a.now + coefficient * number v nodes.now b.now) }
+        ensures hints { AreTrue nodes.now self.new }
+    {
+        if let Some(sum) = self.combined(alloc, nodes, a, coefficient, b) {
+            self.note(alloc, nodes, out, sum);
+        }
+    }
+
+    // a * b
+    fn multiplied(
+        &mut self,
+        alloc: Global,
+        nodes: &[NetNode],
+        a: &[Bit],
+        b: &[Bit],
+    ) -> Option<Polynomial>
+        requires net { IsNet nodes.now }
+        requires hints { AreTrue nodes.now self.old }
+        requires operands { AreOperands nodes.now a.now b.now }
+        ensures hints { AreTrue nodes.now self.new }
+        ensures tells { IfSome result (λ p. Tells nodes.now (bits_of self.new.words.list.items) (length a.now) p
+            (λ v. number v nodes.now a.now * number v nodes.now b.now)) }
+    {
+        let left = self.told(alloc, nodes, a)?;
+        let right = self.told(alloc, nodes, b)?;
+        times(alloc, a.len() as u32, &left, &right)
+    }
+
+    /// Bits are a * b.
+    pub fn note_product(
+        &mut self,
+        alloc: Global,
+        nodes: &[NetNode],
+        a: &[Bit],
+        b: &[Bit],
+        out: &[Bit],
+    )
+        requires net { IsNet nodes.now }
+        requires hints { AreTrue nodes.now self.old }
+        requires operands { AreOperands nodes.now a.now b.now }
+        requires out_in { AreIn nodes.now out.now }
+        requires wide { length out.now ≡ length a.now }
+        requires is { (v : ℕ → Bool) → Same (length out.now) (number v nodes.now out.now)
+            (number v nodes.now a.now * number v nodes.now b.now) }
+        ensures hints { AreTrue nodes.now self.new }
+    {
+        if let Some(product) = self.multiplied(alloc, nodes, a, b) {
+            self.note(alloc, nodes, out, product);
+        }
+    }
+
+    // no + test * (yes - no)
+    fn chosen(
+        &mut self,
+        alloc: Global,
+        nodes: &[NetNode],
+        test: Bit,
+        yes: &[Bit],
+        no: &[Bit],
+    ) -> Option<Polynomial>
+        requires net { IsNet nodes.now }
+        requires hints { AreTrue nodes.now self.old }
+        requires test_in { IsIn nodes.now test }
+        requires operands { AreOperands nodes.now yes.now no.now }
+        ensures hints { AreTrue nodes.now self.new }
+        ensures tells { IfSome result (λ p. Tells nodes.now (bits_of self.new.words.list.items) (length yes.now) p
+            (λ v. cond (holds v nodes.now test) (number v nodes.now yes.now) (number v nodes.now no.now))) }
+    {
+        let width = yes.len() as u32;
+        let more = self.combined(alloc, nodes, yes, u64::MAX, no)?;
+        let truth = self.truth(alloc, nodes, test)?;
+        let part = times(alloc, width, &truth, &more)?;
+        let mut chosen = self.told(alloc, nodes, no)?;
+        match chosen.add_multiple(width, 1, [0; 6], &part) {
+            Ok(true) => Some(chosen),
+            _ => None,
+        }
+    }
+
+    /// Bits are `yes` where the test is true, else `no`.
+    pub fn note_choice(
+        &mut self,
+        alloc: Global,
+        nodes: &[NetNode],
+        test: Bit,
+        yes: &[Bit],
+        no: &[Bit],
+        out: &[Bit],
+    )
+        requires net { IsNet nodes.now }
+        requires hints { AreTrue nodes.now self.old }
+        requires test_in { IsIn nodes.now test }
+        requires operands { AreOperands nodes.now yes.now no.now }
+        requires out_in { AreIn nodes.now out.now }
+        requires wide { length out.now ≡ length yes.now }
+        requires is { (v : ℕ → Bool) → number v nodes.now out.now
+            ≡ cond (holds v nodes.now test) (number v nodes.now yes.now) (number v nodes.now no.now) }
+        ensures hints { AreTrue nodes.now self.new }
+    {
+        if let Some(chosen) = self.chosen(alloc, nodes, test, yes, no) {
+            self.note(alloc, nodes, out, chosen);
+        }
+    }
+
+    /// Bits are the lowest digits of a word.
+    pub fn note_cut(&mut self, alloc: Global, nodes: &[NetNode], whole: &[Bit], out: &[Bit])
+        requires net { IsNet nodes.now }
+        requires hints { AreTrue nodes.now self.old }
+        requires whole_in { AreIn nodes.now whole.now }
+        requires few { length whole.now ≤ 64 }
+        requires out_in { AreIn nodes.now out.now }
+        requires wide { length out.now ≤ length whole.now }
+        requires is { (v : ℕ → Bool) → Same (length out.now) (number v nodes.now out.now)
+            (number v nodes.now whole.now) }
+        ensures hints { AreTrue nodes.now self.new }
+    {
+        let Some(all) = self.told(alloc, nodes, whole) else {
+            return;
+        };
+        let mut low = Polynomial::new(alloc);
+        if let Ok(true) = low.add_multiple(out.len() as u32, 1, [0; 6], &all) {
+            self.note(alloc, nodes, out, low);
+        }
+    }
+
+    // a polynomial that is 0 exactly where a and b are equal, in its normal form
+    fn difference(
+        &mut self,
+        alloc: Global,
+        nodes: &[NetNode],
+        a: &[Bit],
+        b: &[Bit],
+    ) -> Option<Polynomial>
+        requires net { IsNet nodes.now }
+        requires hints { AreTrue nodes.now self.old }
+        requires operands { AreOperands nodes.now a.now b.now }
+        ensures hints { AreTrue nodes.now self.new }
+        ensures asks { IfSome result (λ p. Asks nodes.now (bits_of self.new.words.list.items) a.now b.now p) }
+    {
+        let mut difference = self.combined(alloc, nodes, a, u64::MAX, b)?;
+        difference.normalise(a.len() as u32);
+        Some(difference)
+    }
+
+    /// A bit that tells whether two numbers are equal, where one is known.
+    pub fn equal(&mut self, alloc: Global, nodes: &[NetNode], a: &[Bit], b: &[Bit]) -> Option<Bit>
+        requires net { IsNet nodes.now }
+        requires hints { AreTrue nodes.now self.old }
+        requires operands { AreOperands nodes.now a.now b.now }
+        ensures hints { AreTrue nodes.now self.new }
+        ensures value { IfSome result (λ r. Means nodes.now r
+            (λ v. nat_eq (number v nodes.now a.now) (number v nodes.now b.now))) }
+    {
+        let width = a.len() as u32;
+        let difference = self.difference(alloc, nodes, a, b)?;
+        match difference.as_constant() {
+            Some(constant) => Some(Bit {
+                node: 0,
+                negated: cut(width, constant) != 0,
+            }),
+            None => self.zeros.find(width, &difference),
+        }
+    }
+
+    /// A bit tells whether two numbers are equal.
+    pub fn note_equal(&mut self, alloc: Global, nodes: &[NetNode], a: &[Bit], b: &[Bit], bit: Bit)
+        requires net { IsNet nodes.now }
+        requires hints { AreTrue nodes.now self.old }
+        requires operands { AreOperands nodes.now a.now b.now }
+        requires tells { Means nodes.now bit (λ v. nat_eq (number v nodes.now a.now) (number v nodes.now b.now)) }
+        ensures hints { AreTrue nodes.now self.new }
+    {
+        if let Some(difference) = self.difference(alloc, nodes, a, b) {
+            self.zeros.add(a.len() as u32, difference, bit);
+        }
+    }
+}

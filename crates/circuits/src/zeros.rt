@@ -1,0 +1,106 @@
+// Bits that tell where polynomials are 0: equal questions have one answer.
+ghost use Rattle.std.specs.Prelude.{◌≡◌, ◌≤◌, ◌^◌, List, [], IfSome, length};
+ghost use Rattle.circuits.specs.declared.net.Bit.{Bit};
+ghost use Rattle.circuits.specs.declared.net.NetNode.{NetNode};
+ghost use Rattle.circuits.specs.Words.{AreZeros, IsZeroOf};
+
+use crate::Bit;
+use crate::places::{Places, REACH};
+use polynomials::Polynomial;
+use std::alloc::Global;
+
+/// A bit that is true exactly where a polynomial is 0 modulo 2^width.
+#[derive(Drop)]
+pub struct Zero {
+    pub width: u32,
+    pub polynomial: Polynomial,
+    pub bit: Bit,
+}
+
+/// Such bits, each found again by its polynomial, which is one in its normal form.
+#[derive(Drop)]
+pub struct Zeros {
+    pub list: Vec<Zero>,
+    places: Places,
+}
+
+// more bits than these aren't kept
+const MOST_ZEROS: usize = 1 << 20;
+
+impl Zeros {
+    /// No question was asked.
+    pub fn new(alloc: Global) -> Zeros
+        ensures { result.list.items ≡ [] }
+    {
+        Zeros {
+            list: Vec::new(alloc),
+            places: Places::new(alloc),
+        }
+    }
+
+    /// The bit that tells where a polynomial is 0.
+    pub fn find(&self, width: u32, polynomial: &Polynomial) -> Option<Bit>
+        ensures { IfSome result (λ bit. (net : List NetNode) (words : List (List Bit))
+            → AreZeros net words self.now.list.items → IsZeroOf net words width polynomial.now bit) }
+    {
+        let hash = hash_of(width, polynomial);
+        for step in 0..REACH {
+            let number = self.places.number(hash, step);
+            if number == 0 {
+                break;
+            }
+            if let Some(bit) = self.answer(number - 1, width, polynomial) {
+                return Some(bit);
+            }
+        }
+        None
+    }
+
+    // the bit of this number, where it is about this polynomial
+    fn answer(&self, at: usize, width: u32, polynomial: &Polynomial) -> Option<Bit>
+        ensures { IfSome result (λ bit. (net : List NetNode) (words : List (List Bit))
+            → AreZeros net words self.now.list.items → IsZeroOf net words width polynomial.now bit) }
+    {
+        let zero = self.list.get(at)?;
+        if zero.width == width && zero.polynomial.same_terms(polynomial) {
+            return Some(zero.bit);
+        }
+        None
+    }
+
+    // lets the last bit be found
+    fn put_last(&mut self)
+        requires { length self.old.list.items ≤ 2 ^ 20 }
+        ensures { self.new.list ≡ self.old.list }
+    {
+        let count = self.list.len();
+        let from = if self.places.spread(count) {
+            0
+        } else {
+            count.saturating_sub(1)
+        };
+        for at in from..count {
+            let hash = hash_of(self.list[at].width, &self.list[at].polynomial);
+            self.places.put(hash, at as u32 + 1);
+        }
+    }
+
+    /// Keeps such a bit, where memory allows it.
+    pub fn add(&mut self, width: u32, polynomial: Polynomial, bit: Bit)
+        ensures { (net : List NetNode) (words : List (List Bit)) → AreZeros net words self.old.list.items
+            → IsZeroOf net words width polynomial bit → AreZeros net words self.new.list.items }
+    {
+        let zero = Zero {
+            width,
+            polynomial,
+            bit,
+        };
+        if self.list.len() < MOST_ZEROS && self.list.push(zero).is_ok() {
+            self.put_last();
+        }
+    }
+}
+
+fn hash_of(width: u32, polynomial: &Polynomial) -> u64 {
+    polynomial.hash().wrapping_add(u64::from(width) << 32)
+}
