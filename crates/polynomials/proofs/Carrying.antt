@@ -74,8 +74,8 @@ pub carried_merged : {factors out : List ℕ} {x carried i : ℕ} → Carried fa
     → Carried factors x out 0 (i + 1)
 carried_merged {factors} {out} {x} {carried} {i} c h odd e = record {
   is = λ v t.
-    let had : product_of v out * factor v carried ≡ product_of v out = rw (sym e) (product_has v out i h (rw e (square v t carried odd))) in
-    omega (arith, had, c.is v t);
+      let had : product_of v out * factor v carried ≡ product_of v out = rw (sym e) (product_has v out i h (rw e (square v t carried odd))) in
+      omega (arith, had, c.is v t);
   within = c.within;
   carried_within = λ n a b. omega (arith, c.carried_within n a b);
   full = λ p. absurd (omega arith);
@@ -108,9 +108,9 @@ product_one v x = omega arith
 
 pub carried_end : {factors out : List ℕ} {x carried i : ℕ} → Carried factors x out carried i → carried ≡ 0 → IsProduct factors (x ∷ []) out
 carried_end {factors} {out} {x} {carried} {i} c e = record {
-  is = λ v t. 
-    let none : product_of v out * factor v carried ≡ product_of v out = rw e (omega arith) in
-    omega (arith, c.is v t, none, ap (λ k. product_of v factors * k) (product_one v x));
+  is = λ v t.
+      let none : product_of v out * factor v carried ≡ product_of v out = rw e (omega arith) in
+      omega (arith, c.is v t, none, ap (λ k. product_of v factors * k) (product_one v x));
   within = λ n a b. c.within n a (All-head (λ x. x < n) x [] b);
   few = omega (arith, c.count, degree_one x);
 }
@@ -148,10 +148,10 @@ degree_more xs i h = sum_by_more (λ x. cond (nat_lt 0 x) 1 0) xs i 0 h
 pub timed_more : {a b mid out : List ℕ} {i : ℕ} → Timed a b mid i → i < length b → IsProduct mid (get_or b i 0 ∷ []) out → Timed a b out (i + 1)
 timed_more {a} {b} {mid} {out} {i} t h p = record {
   is = λ v truths.
-    let first = ap (λ k. k * product_of v (get_or b i 0 ∷ [])) (t.is v truths) in
-    let last = ap (λ k. product_of v a * k) (product_more v b i h) in
-    let single = ap (λ k. product_of v a * product_of v (take i b) * k) (product_one v (get_or b i 0)) in
-    omega (arith, p.is v truths, first, last, single);
+      let first = ap (λ k. k * product_of v (get_or b i 0 ∷ [])) (t.is v truths) in
+      let last = ap (λ k. product_of v a * k) (product_more v b i h) in
+      let single = ap (λ k. product_of v a * product_of v (take i b) * k) (product_one v (get_or b i 0)) in
+      omega (arith, p.is v truths, first, last, single);
   within = λ n x y. p.within n (t.within n x y) (All-cons (λ x. x < n) (get_or b i 0) [] (All-get_or (λ x. x < n) b i 0 h y) (All-nil (λ x. x < n)));
   few = omega (arith, p.few, t.few, degree_more b i h, degree_one (get_or b i 0));
 }

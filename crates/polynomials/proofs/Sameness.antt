@@ -39,7 +39,7 @@ pub same_masked : {w a b : ℕ} → w ≤ 64 → b ≡ a % 2 ^ 64 % 2 ^ w → Sa
 same_masked {w} {a} {b} h e = same_trans (same_by e) (same_trans (same_mod w (a % 2 ^ 64)) (same_narrow h (same_mod 64 a)))
 
 same_whole : (w k : ℕ) → Same w (k * 2 ^ w) 0
-same_whole w k = 
+same_whole w k =
     let e : k * 2 ^ w ≡ 0 + k * 2 ^ w = omega arith in
     record { is = ap (λ n. n % 2 ^ w) e ∙ add-mul-mod_self_right 0 k (2 ^ w) }
 

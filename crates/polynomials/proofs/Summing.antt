@@ -31,13 +31,13 @@ added_more {w} {coefficient} {i} {old} {mid} {new} {other} {items} {factors} {pr
     let inside : i < length other = omega (arith, h, ap length from) in
     record {
       is = λ v truths.
-        let f = product_of v factors in
-        let g = product_of v t.factors in
-        let some = value v (take i other) in
-        let next : value v (take (i + 1) other) ≡ some + t.coefficient * g = sum_by_more (worth v) other i d inside ∙ ap (λ x. some + worth v x) read in
-        let first : Same w (scaled * product_of v product) (coefficient * t.coefficient * (f * g)) = same_mul (same_cut narrow refl) (same_by (p.is v truths)) in
-        let last : value v old + coefficient * f * some + coefficient * t.coefficient * (f * g) ≡ value v old + coefficient * f * value v (take (i + 1) other) = rw next (omega arith) in
-        same_trans (m.is v) (same_trans (same_add (a.is v truths) first) (same_by last));
+          let f = product_of v factors in
+          let g = product_of v t.factors in
+          let some = value v (take i other) in
+          let next : value v (take (i + 1) other) ≡ some + t.coefficient * g = sum_by_more (worth v) other i d inside ∙ ap (λ x. some + worth v x) read in
+          let first : Same w (scaled * product_of v product) (coefficient * t.coefficient * (f * g)) = same_mul (same_cut narrow refl) (same_by (p.is v truths)) in
+          let last : value v old + coefficient * f * some + coefficient * t.coefficient * (f * g) ≡ value v old + coefficient * f * value v (take (i + 1) other) = rw next (omega arith) in
+          same_trans (m.is v) (same_trans (same_add (a.is v truths) first) (same_by last));
       within = λ n x y z. m.within n (a.within n x y z) (p.within n y (subst (λ t. AreFactorsBelow n t.factors) read (All-get_or (λ t. AreFactorsBelow n t.factors) other i d inside z)));
       grown = omega (arith, a.grown, grown);
     }
@@ -63,10 +63,10 @@ multiplied_more {w} {i} {p} {q} {mid} {new} {items} d m from h a grown =
     let inside : i < length p = omega (arith, h, ap length from) in
     record {
       is = λ v truths.
-        let some = value v (take i p) in
-        let next : value v (take (i + 1) p) ≡ some + worth v s = sum_by_more (worth v) p i d inside ∙ ap (λ x. some + worth v x) read in
-        let last : some * value v q + worth v s * value v q ≡ value v (take (i + 1) p) * value v q = rw next (omega arith) in
-        same_trans (a.is v truths) (same_trans (same_add (m.is v truths) (same_refl w (worth v s * value v q))) (same_by last));
+          let some = value v (take i p) in
+          let next : value v (take (i + 1) p) ≡ some + worth v s = sum_by_more (worth v) p i d inside ∙ ap (λ x. some + worth v x) read in
+          let last : some * value v q + worth v s * value v q ≡ value v (take (i + 1) p) * value v q = rw next (omega arith) in
+          same_trans (a.is v truths) (same_trans (same_add (m.is v truths) (same_refl w (worth v s * value v q))) (same_by last));
       within = λ n x y. a.within n (m.within n x y) (subst (λ t. AreFactorsBelow n t.factors) read (All-get_or (λ t. AreFactorsBelow n t.factors) p i d inside x)) y;
       grown = omega (arith, m.grown, grown);
     }

@@ -25,11 +25,11 @@ removed_is : {w coefficient : ℕ} {old new : List Term} (place : ℕ) (t : Term
     → new ≡ remove old place → 0 ≡ (t.coefficient + coefficient) % 2 ^ 64 % 2 ^ w → IsWithTerm w old coefficient t.factors new
 removed_is {w} {coefficient} {old} {new} place t narrow h read e zero_is = record {
   is = λ v.
-    let p = product_of v t.factors in
-    let sum : value v (remove old place) + worth v t ≡ value v old = ap (λ x. value v (remove old place) + worth v x) read ∙ sum_by-remove (worth v) old place t h in
-    let split : value v old + coefficient * p ≡ value v new + (t.coefficient + coefficient) * p = rw e (omega (arith, sum)) in
-    let none : value v new + 0 * p ≡ value v new = omega arith in
-    same_sym (same_trans (same_by split) (same_trans (same_add (same_refl w (value v new)) (same_mul (same_sym (same_masked narrow zero_is)) (same_refl w p))) (same_by none)));
+      let p = product_of v t.factors in
+      let sum : value v (remove old place) + worth v t ≡ value v old = ap (λ x. value v (remove old place) + worth v x) read ∙ sum_by-remove (worth v) old place t h in
+      let split : value v old + coefficient * p ≡ value v new + (t.coefficient + coefficient) * p = rw e (omega (arith, sum)) in
+      let none : value v new + 0 * p ≡ value v new = omega arith in
+      same_sym (same_trans (same_by split) (same_trans (same_add (same_refl w (value v new)) (same_mul (same_sym (same_masked narrow zero_is)) (same_refl w p))) (same_by none)));
   within = λ n a b. rw e (All-append (λ t. AreFactorsBelow n t.factors) (take place old) (drop (suc place) old) (All-take (λ t. AreFactorsBelow n t.factors) place old a) (All-drop (λ t. AreFactorsBelow n t.factors) (suc place) old a));
 }
 
@@ -38,12 +38,12 @@ merged_is : {w coefficient : ℕ} {old new : List Term} (place : ℕ) (t y : Ter
     → new ≡ set old place y → y.coefficient ≡ (t.coefficient + coefficient) % 2 ^ 64 % 2 ^ w → y.factors ≡ t.factors → IsWithTerm w old coefficient t.factors new
 merged_is {w} {coefficient} {old} {new} place t y narrow h read e sum_is same = record {
   is = λ v.
-    let p = product_of v t.factors in
-    let edit : value v (set old place y) + worth v t ≡ value v old + worth v y = ap (λ x. value v (set old place y) + worth v x) read ∙ sum_by-set (worth v) old place y t h in
-    let named : worth v y ≡ y.coefficient * p = ap (λ l. y.coefficient * product_of v l) same in
-    let first : value v new + t.coefficient * p ≡ value v old + y.coefficient * p = rw e (omega (arith, edit, named)) in
-    let last : value v old + (t.coefficient + coefficient) * p ≡ value v old + coefficient * p + t.coefficient * p = omega arith in
-    same_cancel (t.coefficient * p) (same_trans (same_by first) (same_trans (same_add (same_refl w (value v old)) (same_mul (same_masked narrow sum_is) (same_refl w p))) (same_by last)));
+      let p = product_of v t.factors in
+      let edit : value v (set old place y) + worth v t ≡ value v old + worth v y = ap (λ x. value v (set old place y) + worth v x) read ∙ sum_by-set (worth v) old place y t h in
+      let named : worth v y ≡ y.coefficient * p = ap (λ l. y.coefficient * product_of v l) same in
+      let first : value v new + t.coefficient * p ≡ value v old + y.coefficient * p = rw e (omega (arith, edit, named)) in
+      let last : value v old + (t.coefficient + coefficient) * p ≡ value v old + coefficient * p + t.coefficient * p = omega arith in
+      same_cancel (t.coefficient * p) (same_trans (same_by first) (same_trans (same_add (same_refl w (value v old)) (same_mul (same_masked narrow sum_is) (same_refl w p))) (same_by last)));
   within = λ n a b. rw e (All-set (λ t. AreFactorsBelow n t.factors) old place y (rw same b) a);
 }
 
@@ -67,10 +67,10 @@ merged_at {w} {coefficient} {items} {old} {new} place t y from narrow h read mad
 pub nothing_is : {w coefficient : ℕ} {old : List Term} {factors : List ℕ} → 0 ≡ coefficient % 2 ^ w → IsWithTerm w old coefficient factors old
 nothing_is {w} {coefficient} {old} {factors} e = record {
   is = λ v.
-    let p = product_of v factors in
-    let zero_is : Same w coefficient 0 = same_sym (same_trans (same_by e) (same_mod w coefficient)) in
-    let none : value v old + 0 * p ≡ value v old = omega arith in
-    same_sym (same_trans (same_add (same_refl w (value v old)) (same_mul zero_is (same_refl w p))) (same_by none));
+      let p = product_of v factors in
+      let zero_is : Same w coefficient 0 = same_sym (same_trans (same_by e) (same_mod w coefficient)) in
+      let none : value v old + 0 * p ≡ value v old = omega arith in
+      same_sym (same_trans (same_add (same_refl w (value v old)) (same_mul zero_is (same_refl w p))) (same_by none));
   within = λ n a b. a;
 }
 
@@ -79,13 +79,13 @@ pub inserted_is : {w coefficient : ℕ} {items old new : List Term} {factors : L
     → y.coefficient ≡ coefficient % 2 ^ w → y.factors ≡ factors → IsWithTerm w old coefficient factors new
 inserted_is {w} {coefficient} {items} {old} {new} {factors} place y from made cut same = let e : new ≡ insert old place y = made ∙ ap (λ l. insert l place y) from in record {
   is = λ v.
-    let p = product_of v factors in
-    let sum : value v (insert old place y) ≡ value v old + worth v y = sum_by-insert (worth v) old place y in
-    let named : worth v y ≡ y.coefficient * p = ap (λ l. y.coefficient * product_of v l) same in
-    let first : value v new ≡ value v old + y.coefficient * p = rw e (omega (arith, sum, named)) in
-    same_trans (same_by first) (same_add (same_refl w (value v old)) (same_mul (same_trans (same_by cut) (same_mod w coefficient)) (same_refl w p)));
+      let p = product_of v factors in
+      let sum : value v (insert old place y) ≡ value v old + worth v y = sum_by-insert (worth v) old place y in
+      let named : worth v y ≡ y.coefficient * p = ap (λ l. y.coefficient * product_of v l) same in
+      let first : value v new ≡ value v old + y.coefficient * p = rw e (omega (arith, sum, named)) in
+      same_trans (same_by first) (same_add (same_refl w (value v old)) (same_mul (same_trans (same_by cut) (same_mod w coefficient)) (same_refl w p)));
   within = λ n a b. rw e (All-append (λ t. AreFactorsBelow n t.factors) (take place old) (y ∷ drop place old) (All-take (λ t. AreFactorsBelow n t.factors) place old a)
-    (All-cons (λ t. AreFactorsBelow n t.factors) y (drop place old) (rw same b) (All-drop (λ t. AreFactorsBelow n t.factors) place old a)));
+      (All-cons (λ t. AreFactorsBelow n t.factors) y (drop place old) (rw same b) (All-drop (λ t. AreFactorsBelow n t.factors) place old a)));
 }
 
 pub number_is : (v : ℕ → ℕ) (c : ℕ) → worth v (record { coefficient = c; factors = 0 ∷ 0 ∷ 0 ∷ 0 ∷ 0 ∷ 0 ∷ [] }) ≡ c
@@ -140,9 +140,9 @@ pub summed_more : {terms : List Term} {sum new i : ℕ} (t : Term) → Summed te
 summed_more {terms} {sum} {new} {i} t s h read none e = record {
   bare = All-more (λ t. degree t.factors ≡ 0) terms i t h s.bare (rw (sym read) none);
   is = λ v.
-    let one : worth v t ≡ t.coefficient = ap (λ k. t.coefficient * k) (bare_product v t.factors none) ∙ omega arith in
-    let first : value v (take (i + 1) terms) ≡ value v (take i terms) + t.coefficient = sum_by_more (worth v) terms i t h ∙ omega (arith, ap (worth v) read, one) in
-    same_trans (same_by first) (same_trans (same_add (s.is v) (same_refl 64 t.coefficient)) (same_sym (same_trans (same_by e) (same_mod 64 (sum + t.coefficient)))));
+      let one : worth v t ≡ t.coefficient = ap (λ k. t.coefficient * k) (bare_product v t.factors none) ∙ omega arith in
+      let first : value v (take (i + 1) terms) ≡ value v (take i terms) + t.coefficient = sum_by_more (worth v) terms i t h ∙ omega (arith, ap (worth v) read, one) in
+      same_trans (same_by first) (same_trans (same_add (s.is v) (same_refl 64 t.coefficient)) (same_sym (same_trans (same_by e) (same_mod 64 (sum + t.coefficient)))));
 }
 
 pub summed_end : {terms : List Term} {sum i : ℕ} → Summed terms sum i → length terms ≤ i → IsConstant terms sum
@@ -157,10 +157,10 @@ zeros_kept {w} {inverse} {old} {new} odd narrow e s =
     record {
       kept = λ v z. same_trans (s.is v) (same_trans (same_mul (same_refl w inverse) z) (same_by (omega arith)));
       only = λ v z.
-        let a : value v old ≡ 1 * value v old = omega arith in
-        let b : odd * inverse * value v old ≡ odd * (inverse * value v old) = omega arith in
-        same_trans (same_by a) (same_trans (same_mul one (same_refl w (value v old))) (same_trans (same_by b)
-        (same_trans (same_mul (same_refl w odd) (same_trans (same_sym (s.is v)) z)) (same_by (omega arith)))));
+          let a : value v old ≡ 1 * value v old = omega arith in
+          let b : odd * inverse * value v old ≡ odd * (inverse * value v old) = omega arith in
+          same_trans (same_by a) (same_trans (same_mul one (same_refl w (value v old))) (same_trans (same_by b)
+          (same_trans (same_mul (same_refl w odd) (same_trans (same_sym (s.is v)) z)) (same_by (omega arith)))));
       within = s.within;
     }
 

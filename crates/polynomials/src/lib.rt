@@ -2,20 +2,15 @@
 //! that it names at all unknowns, odd numbers standing for unknowns that are 0 or 1.
 #![tactic(auto)]
 
-mod division;
-mod elimination;
 mod factors;
+mod modular;
 mod multiples;
 mod normal;
 mod polynomial;
-mod words;
-
-#[cfg(test)]
-mod elimination_tests;
 #[cfg(test)]
 mod tests;
 
-pub use elimination::{MOST_FACTS, reduce};
-pub use factors::{Factors, MOST_FACTORS, over, times};
+pub use factors::{Factors, MOST_FACTORS, times};
+pub use modular::masked;
 pub use multiples::multiply;
 pub use polynomial::{MOST_TERMS, Polynomial, Term};

@@ -3,7 +3,7 @@ ghost use Rattle.std.specs.Prelude.{◌≤◌};
 ghost use Rattle.polynomials.specs.Calls.{HasSameZeros};
 
 use crate::Polynomial;
-use crate::words::{inverse_of, masked};
+use crate::modular::{inverse_of, masked};
 
 impl Polynomial {
     /// Multiplies by a number that has an inverse, so that the first coefficient with the fewest factors 2 becomes a

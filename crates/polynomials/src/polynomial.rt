@@ -6,12 +6,12 @@ ghost use Rattle.polynomials.specs.Values.{AreBelow, value, factor, Same};
 ghost use Rattle.polynomials.specs.Calls.{IsWithTerm, IsScaled, IsConstant, HasUnknowns};
 
 use crate::factors::{Factors, exceeds, is_one};
-use crate::words::masked;
+use crate::modular::masked;
 use std::alloc::Global;
 use std::marker::Model;
 use wv_base::OutOfMemory;
 
-/// So many terms a polynomial may have.
+/// The most terms of a polynomial.
 pub const MOST_TERMS: usize = 32;
 
 /// A coefficient times a product of unknowns.
@@ -21,8 +21,9 @@ pub struct Term {
     pub factors: Factors,
 }
 
-/// A sum of terms. Its calls keep the factors in descending order, each once, and no coefficient 0. Contracts see the
-/// list of the terms, and speak of its value alone.
+/// A sum of terms. Its calls keep the factors in descending order, each once, and no coefficient 0; coefficients are
+/// below 2^64, and the calls with a width cut those that they touch to it. Contracts see the list of the terms, and
+/// speak of its value alone.
 #[derive(Drop)]
 pub struct Polynomial {
     terms: Vec<Term>,

@@ -1,5 +1,5 @@
 // What no clause says: that equal polynomials get equal terms, what is refused, what `normalise` makes.
-use crate::factors::{Factors, over, times};
+use crate::factors::{Factors, times};
 use crate::{Polynomial, multiply};
 use std::alloc::Global;
 use wv_base::OutOfMemory;
@@ -155,16 +155,20 @@ fn random_polynomials_have_their_values(rt: HostRuntime) {
 
 #[test]
 fn products_of_factors(rt: HostRuntime) {
-    assert_eq!(rt; times([3, 0, 0, 0, 0, 0], [3, 0, 0, 0, 0, 0]), Some([3, 0, 0, 0, 0, 0]));
-    assert_eq!(rt; times([4, 3, 0, 0, 0, 0], [5, 4, 3, 0, 0, 0]), Some([5, 4, 4, 3, 0, 0]));
+    assert_eq!(rt;
+        times([3, 0, 0, 0, 0, 0], [3, 0, 0, 0, 0, 0]),
+        Some([3, 0, 0, 0, 0, 0])
+    );
+    assert_eq!(rt;
+        times([4, 3, 0, 0, 0, 0], [5, 4, 3, 0, 0, 0]),
+        Some([5, 4, 4, 3, 0, 0])
+    );
     assert_eq!(rt; times([9, 8, 6, 4, 2, 1], [9, 7, 1, 0, 0, 0]), None);
-    assert_eq!(rt; times([9, 8, 6, 4, 2, 1], [9, 1, 0, 0, 0, 0]), Some([9, 8, 6, 4, 2, 1]));
+    assert_eq!(rt;
+        times([9, 8, 6, 4, 2, 1], [9, 1, 0, 0, 0, 0]),
+        Some([9, 8, 6, 4, 2, 1])
+    );
     assert_eq!(rt; times([2, 2, 2, 2, 0, 0], [2, 2, 2, 0, 0, 0]), None);
-    assert_eq!(rt; over([5, 4, 4, 3, 0, 0], [4, 3, 0, 0, 0, 0]), Some([5, 4, 0, 0, 0, 0]));
-    assert_eq!(rt; over([5, 4, 4, 3, 0, 0], NONE), Some([5, 4, 4, 3, 0, 0]));
-    assert_eq!(rt; over([9, 8, 6, 4, 2, 1], [9, 8, 6, 4, 2, 1]), Some(NONE));
-    assert_eq!(rt; over([5, 4, 0, 0, 0, 0], [4, 4, 0, 0, 0, 0]), None);
-    assert_eq!(rt; over([5, 4, 0, 0, 0, 0], [6, 0, 0, 0, 0, 0]), None);
 }
 
 fn refuses_terms(alloc: Global) -> Result<bool, OutOfMemory> {
@@ -205,7 +209,11 @@ fn normal(alloc: Global, width: u32, c: u64) -> Result<Polynomial, OutOfMemory> 
     if width > 64 {
         return Ok(r);
     }
-    let p = linear(alloc, width, &[(12, 2), (6, 4), (20, 6), (1u64 << 40, 8), (200, 0)])?;
+    let p = linear(
+        alloc,
+        width,
+        &[(12, 2), (6, 4), (20, 6), (1u64 << 40, 8), (200, 0)],
+    )?;
     let _ = r.add_multiple(width, c, NONE, &p)?;
     r.normalise(width);
     Ok(r)

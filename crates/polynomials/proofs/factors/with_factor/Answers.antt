@@ -10,9 +10,10 @@ pub loop-i-preserved : goal.loop-i-preserved
 loop-i-preserved c =
     let old = c.loop-i.invariant in
     elim c.if-held-carried.branch [
-      then-held-carried+then-held-eq1 w ↦ rw w.product-is (rw w.carried-is (carried_merged old (omega (arith, old.wide)) (omega arith) (omega arith)))
-    | else-held-carried+then-held-carried-2 w ↦ rw w.product-is (rw w.carried-is (carried_swapped old (omega (arith, old.wide)) (search rules) (omega arith)))
-    | else-held-carried+else-held-carried-2 w ↦ rw w.product-is (rw w.carried-is (carried_kept old (omega arith))) ]
+      | then-held-carried+then-held-eq1 w ↦ rw w.product-is (rw w.carried-is (carried_merged old (omega (arith, old.wide)) (omega arith) (omega arith)))
+      | else-held-carried+then-held-carried-2 w ↦ rw w.product-is (rw w.carried-is (carried_swapped old (omega (arith, old.wide)) (search rules) (omega arith)))
+      | else-held-carried+else-held-carried-2 w ↦ rw w.product-is (rw w.carried-is (carried_kept old (omega arith)))
+    ]
 
 pub returns-then-carried-eq0 : goal.returns-then-carried-eq0
 returns-then-carried-eq0 c = carried_end c.loop-i.invariant (omega arith)

@@ -9,5 +9,6 @@ pub returns-clause-value : goal.returns-clause-value
 returns-clause-value c = λ v.
     let cut = same_trans (same_by c.masked-coefficient.ensures) (same_mod c.args.width c.args.c) in
     elim c.if-coefficient-ne0.branch [
-      then-coefficient-ne0+in_ok-push w ↦ same_trans (same_by (pushed_is v c.p.inside.terms.items _ _ (w.p-is ∙ w.in_ok-push.ensures.items) (c.p.view_is ∙ c.new-p.ensures) ∙ number_is v c.masked-coefficient.result)) cut
-    | else-coefficient-ne0 w ↦ same_trans (same_by (ap (value v) (w.p-is ∙ c.new-p.ensures) ∙ sym w.if-coefficient-ne0.false)) cut ]
+      | then-coefficient-ne0+in_ok-push w ↦ same_trans (same_by (pushed_is v c.p.inside.terms.items _ _ (w.p-is ∙ w.in_ok-push.ensures.items) (c.p.view_is ∙ c.new-p.ensures) ∙ number_is v c.masked-coefficient.result)) cut
+      | else-coefficient-ne0 w ↦ same_trans (same_by (ap (value v) (w.p-is ∙ c.new-p.ensures) ∙ sym w.if-coefficient-ne0.false)) cut
+    ]

@@ -9,8 +9,8 @@ pub fn masked(width: u32, n: u64) -> u64
     if width == 64 { n } else { n % (1u64 << width) }
 }
 
-/// By Newton's steps, each of which doubles the digits that are right; an odd number times itself is 1 modulo 8. What
-/// is rested on is tested by the caller.
+/// The inverse of an odd number modulo 2^64, by Newton's steps, each of which doubles the digits that are right; an odd
+/// number times itself is 1 modulo 8. No contract rests on it: the caller looks at the product.
 pub fn inverse_of(odd: u64) -> u64 {
     let mut inverse = odd;
     for _ in 0..5 {
