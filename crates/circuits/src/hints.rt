@@ -1,5 +1,5 @@
 // What is known of words beside the nodes of a net. Where memory or a limit stands in the way, less is known.
-ghost use Rattle.std.specs.Prelude.{◌≡◌, ℕ, Bool, ◌+◌, ◌*◌, ◌≤◌, ◌^◌, ◌%◌, IfSome, List, cond, length, nat_eq};
+ghost use Rattle.std.specs.Prelude.{◌≡◌, ℕ, Bool, ◌+◌, ◌*◌, ◌≤◌, IfSome, List, cond, length, nat_eq};
 ghost use Rattle.polynomials.specs.Calls.{Multiplies};
 ghost use Rattle.polynomials.specs.Values.{Same};
 ghost use Rattle.circuits.specs.declared.net.NetNode.{NetNode};
@@ -10,7 +10,7 @@ ghost use Rattle.circuits.specs.Words.{AreOperands, AreTrue, Asks, Continues, Te
 use crate::words::Words;
 use crate::zeros::Zeros;
 use crate::{Bit, NetNode};
-use polynomials::{Polynomial, multiply};
+use polynomials::{Polynomial, masked, multiply};
 use std::alloc::Global;
 
 /// Words with their polynomials, and bits that tell where polynomials are 0.
@@ -18,18 +18,6 @@ use std::alloc::Global;
 pub struct Hints {
     pub words: Words,
     pub zeros: Zeros,
-}
-
-// the lowest digits of a number
-fn cut(width: u32, number: u64) -> u64
-    requires { width ≤ 64 }
-    ensures { result ≡ number % 2 ^ width }
-{
-    if width == 64 {
-        number
-    } else {
-        number % (1u64 << width)
-    }
 }
 
 // the product, where memory and the limits on polynomials allow it
@@ -40,6 +28,25 @@ fn times(alloc: Global, width: u32, p: &Polynomial, q: &Polynomial) -> Option<Po
     match multiply(alloc, width, p, q) {
         Ok(Some(product)) => Some(product),
         _ => None,
+    }
+}
+
+// whether a choice is one word of the two in any case, or takes a value that was drawn: this is then an unknown as good as
+// any, where a polynomial would carry the old value and the test along
+fn is_better_alone(nodes: &[NetNode], test: Bit, yes: &[Bit]) -> bool {
+    if test.node == 0 {
+        return true;
+    }
+    match yes.first() {
+        Some(lowest) => is_input(nodes, *lowest),
+        None => true,
+    }
+}
+
+fn is_input(nodes: &[NetNode], bit: Bit) -> bool {
+    match nodes.get(bit.node as usize) {
+        Some(NetNode::Input(_)) => true,
+        _ => false,
     }
 }
 
@@ -233,6 +240,9 @@ impl Hints {
             ≡ cond (holds v nodes.now test) (number v nodes.now yes.now) (number v nodes.now no.now) }
         ensures hints { AreTrue nodes.now self.new }
     {
+        if is_better_alone(nodes, test, yes) {
+            return;
+        }
         if let Some(chosen) = self.chosen(alloc, nodes, test, yes, no) {
             self.note(alloc, nodes, out, chosen);
         }
@@ -250,6 +260,9 @@ impl Hints {
             (number v nodes.now whole.now) }
         ensures hints { AreTrue nodes.now self.new }
     {
+        if out.len() == whole.len() {
+            return;
+        }
         let Some(all) = self.told(alloc, nodes, whole) else {
             return;
         };
@@ -292,7 +305,7 @@ impl Hints {
         match difference.as_constant() {
             Some(constant) => Some(Bit {
                 node: 0,
-                negated: cut(width, constant) != 0,
+                negated: masked(width, constant) != 0,
             }),
             None => self.zeros.find(width, &difference),
         }

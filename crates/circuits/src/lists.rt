@@ -5,6 +5,7 @@ ghost use Rattle.circuits.specs.Numbers.{number, digit, AreIn, Counts};
 ghost use Rattle.circuits.specs.Gates.{digits_of};
 
 use crate::gates::{Gate, apply_gate, compared, full, pick};
+use crate::words::lone_digit;
 use crate::{Bit, Net, not};
 use std::alloc::Global;
 use wv_base::OutOfMemory;
@@ -64,7 +65,7 @@ pub fn any(net: &mut Net, bits: &[Bit]) -> Result<Bit, OutOfMemory>
     Ok(not(none))
 }
 
-/// The same, by a bit that tells it already where one is known.
+/// The same, by a bit that tells it already where one is known. A digit alone needs none.
 pub fn nonzero(alloc: Global, net: &mut Net, bits: &[Bit]) -> Result<Bit, OutOfMemory>
     requires bits_in { AreIn net.old bits.now }
     requires few { length bits.now ≤ 64 }
@@ -72,6 +73,9 @@ pub fn nonzero(alloc: Global, net: &mut Net, bits: &[Bit]) -> Result<Bit, OutOfM
     ensures grown { Grown (length bits.now) net.old net.new }
     ensures value { IfOk result (λ r. Means net.new r (λ v. not (nat_eq (number v net.old bits.now) 0))) }
 {
+    if lone_digit(bits).is_some() {
+        return any(net, bits);
+    }
     let zero = zeros(alloc, net, bits.len())?;
     if let Some(equal) = net.known_equal(alloc, bits, &zero) {
         return Ok(not(equal));

@@ -5,7 +5,7 @@ ghost use Rattle.circuits.specs.Net.{holds, IsIn, IsNet};
 ghost use Rattle.circuits.specs.Numbers.{digit, number, AreIn};
 ghost use Rattle.circuits.specs.Words.{AreWords, Continues, Tells, bits_of};
 
-use crate::places::{Places, REACH};
+use crate::slots::{REACH, Slots};
 use crate::{Bit, NetNode};
 use polynomials::Polynomial;
 use std::alloc::Global;
@@ -22,7 +22,7 @@ pub struct Word {
 #[derive(Drop)]
 pub struct Words {
     pub list: Vec<Word>,
-    places: Places,
+    slots: Slots,
 }
 
 // more words than these aren't kept
@@ -35,7 +35,7 @@ impl Words {
     {
         Words {
             list: Vec::new(alloc),
-            places: Places::new(alloc),
+            slots: Slots::new(alloc),
         }
     }
 
@@ -46,7 +46,7 @@ impl Words {
     {
         let hash = hash_of(bits);
         for step in 0..REACH {
-            let number = self.places.number(hash, step);
+            let number = self.slots.number(hash, step) as usize;
             if number == 0 || number > MOST_WORDS {
                 break;
             }
@@ -73,14 +73,14 @@ impl Words {
         ensures { self.new.list ≡ self.old.list }
     {
         let count = self.list.len();
-        let from = if self.places.spread(count) {
+        let from = if self.slots.spread(count) {
             0
         } else {
             count.saturating_sub(1)
         };
         for at in from..count {
             let hash = hash_of(&self.list[at].bits);
-            self.places.put(hash, at as u32 + 1);
+            self.slots.put(hash, at as u32 + 1);
         }
     }
 
@@ -204,6 +204,13 @@ impl Words {
         Polynomial::unknown(alloc, 2 * at as u32 + 2).ok()
     }
 
+    // whether a polynomial is known of bits as they are, without an unknown of their own
+    fn is_known(&self, bits: &[Bit]) -> bool
+        requires { length bits.now ≤ 64 }
+    {
+        lone_digit(bits).is_some() || constant_of(bits).is_some() || self.find(bits).is_some()
+    }
+
     /// Keeps what the number of bits is, where they aren't known yet.
     pub fn note(&mut self, alloc: Global, nodes: &[NetNode], bits: &[Bit], polynomial: Polynomial)
         requires words { AreWords nodes.now self.old.list.items }
@@ -214,14 +221,14 @@ impl Words {
         ensures words { AreWords nodes.now self.new.list.items }
         ensures more { Continues self.old.list.items self.new.list.items }
     {
-        if self.list.len() >= MOST_WORDS || self.find(bits).is_some() {
+        if self.list.len() >= MOST_WORDS || self.is_known(bits) {
             return;
         }
         let _ = self.add(alloc, nodes, bits, polynomial);
     }
 }
 
-// bits that differ little get places that lie far apart
+// bits that differ little get hashes that lie far apart
 fn hash_of(bits: &[Bit]) -> u64 {
     let mut sum: u64 = bits.len() as u64;
     for bit in bits {
@@ -233,7 +240,7 @@ fn hash_of(bits: &[Bit]) -> u64 {
 }
 
 /// The digit that alone may differ from 0: the lowest, before digits that are constantly 0.
-fn lone_digit(bits: &[Bit]) -> Option<Bit>
+pub fn lone_digit(bits: &[Bit]) -> Option<Bit>
     ensures { IfSome result (λ b. (net : List NetNode) → IsNet net → AreIn net bits.now → IsIn net b
         × ((v : ℕ → Bool) → number v net bits.now ≡ digit (holds v net b))) }
 {
@@ -246,7 +253,7 @@ fn lone_digit(bits: &[Bit]) -> Option<Bit>
     Some(*lowest)
 }
 
-/// The number of at most 64 bits that are constants.
+// the number of at most 64 bits that are constants
 fn constant_of(bits: &[Bit]) -> Option<u64>
     requires { length bits.now ≤ 64 }
     ensures { IfSome result (λ n. (net : List NetNode) → IsNet net → (v : ℕ → Bool) → number v net bits.now ≡ n) }

@@ -5,7 +5,7 @@ ghost use Rattle.circuits.specs.declared.net.NetNode.{NetNode};
 ghost use Rattle.circuits.specs.Words.{AreZeros, IsZeroOf};
 
 use crate::Bit;
-use crate::places::{Places, REACH};
+use crate::slots::{REACH, Slots};
 use polynomials::Polynomial;
 use std::alloc::Global;
 
@@ -21,7 +21,7 @@ pub struct Zero {
 #[derive(Drop)]
 pub struct Zeros {
     pub list: Vec<Zero>,
-    places: Places,
+    slots: Slots,
 }
 
 // more bits than these aren't kept
@@ -34,7 +34,7 @@ impl Zeros {
     {
         Zeros {
             list: Vec::new(alloc),
-            places: Places::new(alloc),
+            slots: Slots::new(alloc),
         }
     }
 
@@ -45,7 +45,7 @@ impl Zeros {
     {
         let hash = hash_of(width, polynomial);
         for step in 0..REACH {
-            let number = self.places.number(hash, step);
+            let number = self.slots.number(hash, step) as usize;
             if number == 0 {
                 break;
             }
@@ -74,14 +74,14 @@ impl Zeros {
         ensures { self.new.list ≡ self.old.list }
     {
         let count = self.list.len();
-        let from = if self.places.spread(count) {
+        let from = if self.slots.spread(count) {
             0
         } else {
             count.saturating_sub(1)
         };
         for at in from..count {
             let hash = hash_of(self.list[at].width, &self.list[at].polynomial);
-            self.places.put(hash, at as u32 + 1);
+            self.slots.put(hash, at as u32 + 1);
         }
     }
 
