@@ -165,10 +165,14 @@ choice_noted {old} {mid} {out} {a} {b} {xs} {ys} {most} {n} t g ht ea eb hx hy c
     ∙ ap (λ k. cond (holds v mid t) k (number v old b)) (sym (number_stays v most old mid a g ha))
     ∙ ap (λ k. cond (holds v mid t) (number v mid a) k) (sym (number_stays v most old mid b g hb))
 
-pub chosen_later : {old new last : List NetNode} {out bits a b xs ys : List Bit} (t : Bit) → last ≡ new → bits ≡ out → a ≡ xs → b ≡ ys
+pub chosen_later : (old : List NetNode) {new last : List NetNode} {out bits a b xs ys : List Bit} (t : Bit) → last ≡ new → bits ≡ out → a ≡ xs → b ≡ ys
     → Counts new out (length a) (λ v. cond (holds v old t) (number v old a) (number v old b))
     → Counts last bits (length xs) (λ v. cond (holds v old t) (number v old xs) (number v old ys))
-chosen_later {old} {new} {last} {out} {bits} {a} {b} {xs} {ys} t e eo ea eb c = rw (e, eo, ← ea, ← eb) c
+chosen_later old {new} {last} {out} {bits} {a} {b} {xs} {ys} t e eo ea eb c = record {
+  inside = rw (e, eo) c.inside;
+  wide = ap length eo ∙ c.wide ∙ ap length ea;
+  is = λ v. rw (e, eo, ← ea, ← eb) (c.is v);
+}
 
 pub cut_counts : {m : DataModel} {ty : IntType} {net : List NetNode} {out low all : List Bit} (a : List Bit) (n : ℕ) → AreTyped m ty net a → n ≤ length a → out ≡ low → low ≡ take n all → all ≡ a
     → Counts net out n (λ v. number v net a % 2 ^ n)

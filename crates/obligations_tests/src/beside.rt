@@ -2,7 +2,7 @@
 use crate::cases::{Case, Judged, evaluate};
 use crate::inputs::numbered_input;
 use crate::told::{Told, told_by_net};
-use crate::{arrays, branches, loops, operators};
+use crate::{arrays, branches, loops, operators, products};
 use c_core::{DataModel, Property};
 use c_havoc::run_havoc;
 use c_meaning::{Draw, HavocEnd};
@@ -34,12 +34,17 @@ fn told_by_run(alloc: Global, judged: &Judged, values: &Seq<i128>) -> Result<Tol
     })
 }
 
-fn is_alike(alloc: Global, judged: &Judged, number: u64) -> Result<bool, OutOfMemory> {
-    let inputs = numbered_input(alloc, judged.all.sites.as_slice(), number)?;
-    let by_net = told_by_net(alloc, judged, &inputs)?;
+/// Whether net and run tell the same under an input.
+pub fn is_alike_at(alloc: Global, judged: &Judged, inputs: &[bool]) -> Result<bool, OutOfMemory> {
+    let by_net = told_by_net(alloc, judged, inputs)?;
     let values = values_of(alloc, by_net.draws.as_slice())?;
     let by_run = told_by_run(alloc, judged, &values)?;
     Ok(by_net.failed == by_run.failed && by_net.draws.as_slice() == by_run.draws.as_slice())
+}
+
+fn is_alike(alloc: Global, judged: &Judged, number: u64) -> Result<bool, OutOfMemory> {
+    let inputs = numbered_input(alloc, judged.all.sites.as_slice(), number)?;
+    is_alike_at(alloc, judged, &inputs)
 }
 
 // Under this many inputs net and run differ.
@@ -92,6 +97,9 @@ fn loops_and_operators_are_told_alike(rt: HostRuntime) -> Result<(), Fail> {
         assert_eq!(rt; differing(rt.alloc(), case)?, 0, "{}", case.name);
     }
     for case in &operators::CASES {
+        assert_eq!(rt; differing(rt.alloc(), case)?, 0, "{}", case.name);
+    }
+    for case in &products::CASES {
         assert_eq!(rt; differing(rt.alloc(), case)?, 0, "{}", case.name);
     }
     Ok(())

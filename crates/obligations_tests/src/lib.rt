@@ -27,6 +27,8 @@ mod loops;
 #[cfg(test)]
 mod operators;
 #[cfg(test)]
+mod products;
+#[cfg(test)]
 mod sites;
 #[cfg(test)]
 mod table;

@@ -5,7 +5,7 @@ use Rattle.circuits.proofs.Noted.{chosen_operands, choice_noted, chosen_later}
 use Rattle.circuits.proofs.bits.choose_bits.Goals as goal
 
 pub note_choice-requires-clause-test_in : goal.note_choice-requires-clause-test_in
-note_choice-requires-clause-test_in c = in_later _ c.in_ok-out.ensures.grown c.requires.test_in
+note_choice-requires-clause-test_in c = in_later c.args.test c.in_ok-out.ensures.grown c.requires.test_in
 
 pub note_choice-requires-clause-operands : goal.note_choice-requires-clause-operands
 note_choice-requires-clause-operands c =
@@ -29,4 +29,4 @@ pub returns-clause-grown : goal.returns-clause-grown
 returns-clause-grown c = grown_until c.note_choice.ensures (wider c.in_ok-out.ensures.grown (omega (arith, ap length c.as_slice-x.ensures)))
 
 pub returns-clause-value : goal.returns-clause-value
-returns-clause-value c = chosen_later _ c.note_choice.ensures c.from_vec-bits.ensures c.as_slice-x.ensures c.as_slice-y.ensures c.in_ok-out.ensures.value
+returns-clause-value c = chosen_later _ _ c.note_choice.ensures c.from_vec-bits.ensures c.as_slice-x.ensures c.as_slice-y.ensures c.in_ok-out.ensures.value

@@ -17,12 +17,6 @@ pub returns-in-Some-clause-value : goal.returns-in-Some-clause-value
 returns-in-Some-clause-value c =
     zero_known _ c.known_equal.ensures.same (counts_same c.deref.ensures.value c.in_ok-zero.ensures) c.in-Some.ensures.value c.not.ensures
 
-pub any-requires-clause-bits_in : goal.any-requires-clause-bits_in
-any-requires-clause-bits_in c = rw c.known_equal.ensures.same c.requires.bits_in
-
-pub any-requires-clause-room : goal.any-requires-clause-room
-any-requires-clause-room c = rw c.known_equal.ensures.same c.requires.room
-
 pub returns-in_err-some-clause-grown : goal.returns-in_err-some-clause-grown
 returns-in_err-some-clause-grown c = grown_from c.known_equal.ensures.same c.in_err-some.ensures.grown
 

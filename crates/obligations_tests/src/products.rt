@@ -1,0 +1,203 @@
+// Products and sums whose words are known: nets beside runs, and what is left to decide.
+use crate::beside::is_alike_at;
+use crate::cases::{Case, Judged, evaluate};
+use crate::inputs::input_of;
+use c_core::{DataModel, Property};
+use std::alloc::Global;
+use std::test::Fail;
+use wv_base::OutOfMemory;
+use wv_schema::InvariantKind::{Location, Loop};
+
+/// The programs, each with its claims.
+pub const CASES: [Case; 3] = [
+    Case {
+        name: "equal and unequal products",
+        source: "\
+void reach_error() { }
+unsigned char __VERIFIER_nondet_uchar();
+int main() {
+  int a = __VERIFIER_nondet_uchar() & 15;
+  int b = __VERIFIER_nondet_uchar() & 15;
+  int p = a * b;
+  int q = b * a;
+  int s = (a + b) * (a - b);
+  int t = a * a - b * b;
+  if (a > b) {
+    p += a;
+    q = a + q;
+  }
+  if (p != q || s != t || a * b == 21 || !(p - a * b)) {
+    reach_error();
+  }
+  return a * b == 12 ? a - 3 : 1;
+}
+",
+        claims: &[
+            (Location, 10, "p == q && s == t"),
+            (Location, 14, "a * b != 21 && p - a * b == (a > b) * a"),
+            (Location, 17, "p != 30 || s == (a - b) * (b + a)"),
+        ],
+    },
+    Case {
+        name: "products that are cut and chosen",
+        source: "\
+void reach_error() { }
+unsigned char __VERIFIER_nondet_uchar();
+int main() {
+  unsigned char a = __VERIFIER_nondet_uchar() & 15;
+  unsigned char b = __VERIFIER_nondet_uchar() & 15;
+  unsigned char c = a * b;
+  signed char s = (signed char) (a * a * b);
+  _Bool t = a * b - 6;
+  int x = t ? c : s;
+  int y = !t * s + t * c;
+  long l = x - y;
+  if (l || (c + s) * 2 == c * 2 + s) {
+    reach_error();
+  }
+  short m = (short) (c * c);
+  if (m == (unsigned short) (a * b * c) && (t || a)) {
+    reach_error();
+  }
+  return ~x + y;
+}
+",
+        claims: &[
+            (Location, 11, "x == y && t + !t == 1"),
+            (Location, 15, "(unsigned char) (a * b) == c && s != 5"),
+        ],
+    },
+    Case {
+        name: "sums of odd numbers",
+        source: "\
+void reach_error() { }
+unsigned char __VERIFIER_nondet_uchar();
+int main() {
+  int n = __VERIFIER_nondet_uchar() & 7;
+  unsigned int i = 0;
+  unsigned int s = 0;
+  while (i < n) {
+    s = s + 2 * i + 1;
+    i = i + 1;
+  }
+  if (s != i * i || s == 25) {
+    reach_error();
+  }
+  return s - n * n;
+}
+",
+        claims: &[
+            (Loop, 7, "s == i * i"),
+            (Location, 11, "s == i * i && s != 16"),
+        ],
+    },
+];
+
+// Programs whose checks hold whatever is drawn, without an assumption.
+const SETTLED: [Case; 3] = [
+    Case {
+        name: "the same product twice",
+        source: "\
+void reach_error() { }
+int __VERIFIER_nondet_int();
+int main() {
+  int a = __VERIFIER_nondet_int();
+  int b = __VERIFIER_nondet_int();
+  if (a * b != b * a || (a + b) * (a + b) != a * a + 2 * a * b + b * b) {
+    reach_error();
+  }
+  return 0;
+}
+",
+        claims: &[],
+    },
+    Case {
+        name: "a sum in another order, and its lowest digits",
+        source: "\
+void reach_error() { }
+unsigned long __VERIFIER_nondet_ulong();
+int main() {
+  unsigned long a = __VERIFIER_nondet_ulong();
+  unsigned long b = __VERIFIER_nondet_ulong();
+  unsigned int c = (unsigned int) (a * (b + 3));
+  unsigned int d = (unsigned int) (3 * a) + (unsigned int) (b * a);
+  if (c != d || c - d) {
+    reach_error();
+  }
+  return 0;
+}
+",
+        claims: &[],
+    },
+    Case {
+        name: "a choice, taken apart",
+        source: "\
+void reach_error() { }
+int __VERIFIER_nondet_int();
+int main() {
+  int a = __VERIFIER_nondet_int();
+  int b = a * a;
+  _Bool t = a > 4;
+  int x = t ? b + 1 : a;
+  if (x - a != t * (b + 1 - a)) {
+    reach_error();
+  }
+  return 0;
+}
+",
+        claims: &[],
+    },
+];
+
+// Under this many of all pairs of numbers below 16, the first two that are drawn, net and run differ.
+fn differing_of_four_bits(alloc: Global, judged: &Judged) -> Result<u64, OutOfMemory> {
+    let mut count: u64 = 0;
+    for pair in 0..256u64 {
+        let inputs = input_of(alloc, judged.all.sites.as_slice(), &[pair / 16, pair % 16])?;
+        if !is_alike_at(alloc, judged, &inputs)? {
+            count = count.saturating_add(1);
+        }
+    }
+    Ok(count)
+}
+
+#[test]
+fn products_of_four_bits_are_told_alike(rt: HostRuntime) -> Result<(), Fail> {
+    for case in &CASES {
+        for property in [Property::UnreachCall, Property::NoOverflow] {
+            let judged = evaluate(
+                rt.alloc(),
+                case.source,
+                case.claims,
+                property,
+                DataModel::Lp64,
+            )
+            .ok_or(case.name)?;
+            assert_eq!(rt;
+                differing_of_four_bits(rt.alloc(), &judged)?,
+                0,
+                "{}",
+                case.name
+            );
+        }
+    }
+    Ok(())
+}
+
+#[test]
+fn equal_words_leave_nothing_to_decide(rt: HostRuntime) -> Result<(), Fail> {
+    for case in &SETTLED {
+        let judged = evaluate(
+            rt.alloc(),
+            case.source,
+            case.claims,
+            Property::UnreachCall,
+            DataModel::Lp64,
+        )
+        .ok_or(case.name)?;
+        for bit in judged.all.failing.as_slice() {
+            assert!(rt; bit.node == 0 && bit.negated, "{}", case.name);
+        }
+    }
+    Ok(())
+}
