@@ -16,6 +16,7 @@ use std::alloc::Global;
 /// Words with their polynomials, and bits that tell where polynomials are 0.
 #[derive(Drop)]
 pub struct Hints {
+    pub alloc: Global,
     pub words: Words,
     pub zeros: Zeros,
 }
@@ -56,6 +57,7 @@ impl Hints {
         ensures { (nodes : List NetNode) → AreTrue nodes result }
     {
         Hints {
+            alloc,
             words: Words::new(alloc),
             zeros: Zeros::new(alloc),
         }

@@ -6,6 +6,7 @@ mod binary;
 mod bits;
 mod comparisons;
 mod conversions;
+mod facts;
 mod gates;
 mod hints;
 mod inputs;

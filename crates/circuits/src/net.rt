@@ -1,11 +1,12 @@
 // Nets of and-nodes.
-ghost use Rattle.std.specs.Prelude.{◌≡◌, ℕ, Bool, ◌+◌, ◌*◌, ◌<◌, ◌≤◌, ◌^◌, IfOk, IfErr, IfSome, MatchOption, true, ◌&&◌, Some, cond, length, nat_eq, false, slice_get, slice_index_or, ◌++◌, ◌∷◌, []};
+ghost use Rattle.std.specs.Prelude.{◌≡◌, ℕ, Bool, ◌+◌, ◌*◌, ◌<◌, ◌≤◌, ◌^◌, IfOk, IfErr, IfSome, MatchOption, true, ◌&&◌, ◌||◌, Some, cond, length, nat_eq, false, slice_get, slice_index_or, ◌++◌, ◌∷◌, []};
 ghost use Rattle.polynomials.specs.Values.{Same};
 ghost use Rattle.circuits.specs.declared.net.NetNode.TheVariants.{Constant, Input};
 ghost use Rattle.circuits.specs.Numbers.{number, AreIn};
 ghost use Rattle.circuits.specs.Words.{AreOperands};
 ghost use Rattle.circuits.specs.Net.{holds, opposite, Grown, Means, IsIn, IsNet, IsFolded, Folds, Stands, bit_in, node_in, values_of, count_ands, count_inputs};
 
+use crate::facts::{answer, parted};
 use crate::hints::Hints;
 use crate::shared::Shared;
 use std::alloc::Global;
@@ -270,6 +271,39 @@ impl Net {
         ensures { self.new ≡ self.old }
     {
         self.hints.note_equal(alloc, &self.nodes, a, b, bit);
+    }
+
+    /// The conjunction of where runs are and a bit. Where that bit's value is known there, no node is added.
+    pub fn under(&mut self, live: Bit, bit: Bit) -> Result<Bit, OutOfMemory>
+        requires live_in { IsIn self.old live }
+        requires bit_in { IsIn self.old bit }
+        requires room { length self.old < 2 ^ 31 }
+        ensures grown { Grown 1 self.old self.new }
+        ensures value { IfOk result (λ r. Means self.new r (λ v. holds v self.old live && holds v self.old bit)) }
+        ensures refused { IfErr result (λ e. self.new ≡ self.old) }
+    {
+        let known = answer(self.hints.alloc, &self.nodes, &self.hints, live, bit);
+        match known {
+            Ok(Some(true)) => Ok(live),
+            Ok(Some(false)) => Ok(not(self.yes())),
+            _ => self.and(live, bit),
+        }
+    }
+
+    /// Where one of two bits is true. Where they part a bit by a test alone, it is that bit.
+    pub fn together(&mut self, a: Bit, b: Bit) -> Result<Bit, OutOfMemory>
+        requires a_in { IsIn self.old a }
+        requires b_in { IsIn self.old b }
+        requires room { length self.old < 2 ^ 31 }
+        ensures grown { Grown 1 self.old self.new }
+        ensures value { IfOk result (λ r. Means self.new r (λ v. holds v self.old a || holds v self.old b)) }
+        ensures refused { IfErr result (λ e. self.new ≡ self.old) }
+    {
+        if let Some(whole) = parted(&self.nodes, a, b) {
+            return Ok(whole);
+        }
+        let neither = self.and(not(a), not(b))?;
+        Ok(not(neither))
     }
 
     /// The values of all nodes where input k has the value `inputs[k]`, and inputs beyond the last are false.

@@ -211,6 +211,15 @@ impl Words {
         lone_digit(bits).is_some() || constant_of(bits).is_some() || self.find(bits).is_some()
     }
 
+    /// The bit that an odd unknown stands for.
+    pub fn digit(&self, truth: u32) -> Option<Bit> {
+        if truth < 3 {
+            return None;
+        }
+        let word = self.list.get((truth as usize - 3) / 2)?;
+        word.bits.first().copied()
+    }
+
     /// Keeps what the number of bits is, where they aren't known yet.
     pub fn note(&mut self, alloc: Global, nodes: &[NetNode], bits: &[Bit], polynomial: Polynomial)
         requires words { AreWords nodes.now self.old.list.items }

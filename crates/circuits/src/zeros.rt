@@ -1,5 +1,5 @@
 // Bits that tell where polynomials are 0: equal questions have one answer.
-ghost use Rattle.std.specs.Prelude.{◌≡◌, ◌≤◌, ◌^◌, List, [], IfSome, length};
+ghost use Rattle.std.specs.Prelude.{◌≡◌, ◌<◌, ◌≤◌, ◌^◌, List, [], IfSome, length};
 ghost use Rattle.circuits.specs.declared.net.Bit.{Bit};
 ghost use Rattle.circuits.specs.declared.net.NetNode.{NetNode};
 ghost use Rattle.circuits.specs.Words.{AreZeros, IsZeroOf};
@@ -22,6 +22,7 @@ pub struct Zero {
 pub struct Zeros {
     pub list: Vec<Zero>,
     slots: Slots,
+    by_node: Slots,
 }
 
 // more bits than these aren't kept
@@ -35,6 +36,7 @@ impl Zeros {
         Zeros {
             list: Vec::new(alloc),
             slots: Slots::new(alloc),
+            by_node: Slots::new(alloc),
         }
     }
 
@@ -68,7 +70,24 @@ impl Zeros {
         None
     }
 
-    // lets the last bit be found
+    /// The place of a bit of this node.
+    pub fn of_node(&self, node: u32) -> Option<usize>
+        ensures { IfSome result (λ at. at < length self.now.list.items) }
+    {
+        let hash = hash_of_node(node);
+        for step in 0..REACH {
+            let number = self.by_node.number(hash, step) as usize;
+            if number == 0 || number > self.list.len() {
+                break;
+            }
+            if self.list[number - 1].bit.node == node {
+                return Some(number - 1);
+            }
+        }
+        None
+    }
+
+    // lets the last bit be found by its polynomial
     fn put_last(&mut self)
         requires { length self.old.list.items ≤ 2 ^ 20 }
         ensures { self.new.list ≡ self.old.list }
@@ -85,6 +104,23 @@ impl Zeros {
         }
     }
 
+    // lets the last bit be found by its node
+    fn put_last_node(&mut self)
+        requires { length self.old.list.items ≤ 2 ^ 20 }
+        ensures { self.new.list ≡ self.old.list }
+    {
+        let count = self.list.len();
+        let from = if self.by_node.spread(count) {
+            0
+        } else {
+            count.saturating_sub(1)
+        };
+        for at in from..count {
+            let hash = hash_of_node(self.list[at].bit.node);
+            self.by_node.put(hash, at as u32 + 1);
+        }
+    }
+
     /// Keeps such a bit, where memory allows it.
     pub fn add(&mut self, width: u32, polynomial: Polynomial, bit: Bit)
         ensures { (net : List NetNode) (words : List (List Bit)) → AreZeros net words self.old.list.items
@@ -97,8 +133,13 @@ impl Zeros {
         };
         if self.list.len() < MOST_ZEROS && self.list.push(zero).is_ok() {
             self.put_last();
+            self.put_last_node();
         }
     }
+}
+
+fn hash_of_node(node: u32) -> u64 {
+    u64::from(node).wrapping_mul(0x9e37_79b9_7f4a_7c15)
 }
 
 fn hash_of(width: u32, polynomial: &Polynomial) -> u64 {

@@ -10,6 +10,11 @@ pub record IsProduct (a b r : List ℕ) : Type 0 where
   pub within : (n : ℕ) → AreFactorsBelow n a → AreFactorsBelow n b → AreFactorsBelow n r
   pub few : degree r ≤ degree a + degree b
 
+-- the factors that b lacks to be a
+pub record IsQuotient (a b r : List ℕ) : Type 0 where
+  pub is : (v : ℕ → ℕ) → AreTruths v → product_of v r * product_of v b ≡ product_of v a
+  pub within : (n : ℕ) → AreFactorsBelow n a → AreFactorsBelow n r
+
 -- one more term
 pub record IsWithTerm (w : ℕ) (old : List Term) (coefficient : ℕ) (factors : List ℕ) (new : List Term) : Type 0 where
   pub is : (v : ℕ → ℕ) → Same w (value v new) (value v old + coefficient * product_of v factors)

@@ -1,7 +1,7 @@
 // Products of unknowns.
-ghost use Rattle.std.specs.Prelude.{◌≡◌, ◌<◌, ◌∷◌, [], MatchOption, MatchBool};
-ghost use Rattle.polynomials.specs.Values.{degree};
-ghost use Rattle.polynomials.specs.Calls.{IsProduct, IsTooHigh};
+ghost use Rattle.std.specs.Prelude.{◌≡◌, ℕ, ◌+◌, ◌<◌, ◌∷◌, [], MatchOption, IfSome, MatchBool};
+ghost use Rattle.polynomials.specs.Values.{degree, AreFactorsBelow};
+ghost use Rattle.polynomials.specs.Calls.{IsProduct, IsQuotient, IsTooHigh};
 
 /// The most factors of a product.
 pub const MOST_FACTORS: usize = 6;
@@ -39,6 +39,35 @@ fn with_factor(factors: Factors, x: u32) -> Option<Factors>
         }
     }
     if carried == 0 { Some(product) } else { None }
+}
+
+/// The factors that `b` lacks to be `a`, if it divides `a`.
+pub fn over(a: Factors, b: Factors) -> Option<Factors>
+    ensures { IfSome result (λ r. IsQuotient a b r) }
+{
+    let rest = lacking(a, b);
+    match times(rest, b) {
+        Some(product) if product == a => Some(rest),
+        _ => None,
+    }
+}
+
+// the factors of `a` without those of `b`, both in descending order
+fn lacking(a: Factors, b: Factors) -> Factors
+    ensures { (n : ℕ) → AreFactorsBelow n a → AreFactorsBelow n result }
+{
+    let mut rest = [0; 6];
+    let mut passed = 0;
+    let mut kept = 0;
+    for i in 0..MOST_FACTORS {
+        if passed < MOST_FACTORS && a[i] == b[passed] {
+            passed += 1;
+        } else if kept < MOST_FACTORS {
+            rest[kept] = a[i];
+            kept += 1;
+        }
+    }
+    rest
 }
 
 /// Whether `a` comes after `b` in the lists of factors that are read from the first on.

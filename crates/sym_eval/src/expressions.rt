@@ -250,7 +250,7 @@ fn eval_where(
     ensures { IfOk result (λ r. ValuesWhere (program_of walk.now) (mode_of walk.now) depth at go (expr_view e.now)
         sym.old sym.new r.bits) }
 {
-    let skipped = sym.net.and(sym.live, not(go))?;
+    let skipped = sym.net.under(sym.live, not(go))?;
     let live = sym.live;
     narrow(sym, walk.program, live, go)?;
     let r = eval(walk, sym, depth, at, true, e)?;

@@ -21,8 +21,7 @@ pub fn either(net: &mut Net, a: Bit, b: Bit) -> Result<Bit, OutOfMemory>
     ensures grown { Grown 1 net.old net.new }
     ensures value { IfOk result (λ r. Means net.new r (λ v. holds v net.old a || holds v net.old b)) }
 {
-    let neither = net.and(not(a), not(b))?;
-    Ok(not(neither))
+    net.together(a, b)
 }
 
 /// No bit is true under any input.

@@ -17,7 +17,7 @@ pub fn stop(sym: &mut Sym, program: &Program, bad: Bit) -> Result<(), OutOfMemor
     ensures { IfOk result (λ r. Turned (program_view program.now) 1 0 sym.old sym.new
         (λ v. stopped (holds v sym.old.net bad))) }
 {
-    let live = sym.net.and(sym.live, not(bad))?;
+    let live = sym.net.under(sym.live, not(bad))?;
     sym.live = live;
     Ok(())
 }
@@ -31,7 +31,7 @@ pub fn narrow(sym: &mut Sym, program: &Program, a: Bit, b: Bit) -> Result<(), Ou
     ensures { IfOk result (λ r. Turned (program_view program.now) 1 0 sym.old sym.new
         (λ v. with_live (holds v sym.old.net a && holds v sym.old.net b))) }
 {
-    let live = sym.net.and(a, b)?;
+    let live = sym.net.under(a, b)?;
     sym.live = live;
     Ok(())
 }
@@ -44,8 +44,7 @@ pub fn join(sym: &mut Sym, program: &Program, other: Bit) -> Result<(), OutOfMem
     ensures { IfOk result (λ r. Turned (program_view program.now) 1 0 sym.old sym.new
         (λ v. with_live (holds v sym.old.net other || holds v sym.old.net sym.old.live))) }
 {
-    let neither = sym.net.and(not(other), not(sym.live))?;
-    sym.live = not(neither);
+    sym.live = sym.net.together(other, sym.live)?;
     Ok(())
 }
 
@@ -74,7 +73,7 @@ pub fn fail(sym: &mut Sym, program: &Program, duty: u32, bad: Bit) -> Result<(),
     ensures { IfOk result (λ r. Turned (program_view program.now) 3 0 sym.old sym.new
         (λ v. failed duty (holds v sym.old.net bad))) }
 {
-    let here = sym.net.and(sym.live, bad)?;
+    let here = sym.net.under(sym.live, bad)?;
     mark(sym, program, duty, here)?;
     stop(sym, program, bad)?;
     Ok(())
@@ -97,7 +96,7 @@ pub fn violate(
         (λ v. violated duty (holds v sym.old.net bad) (holds v sym.old.net counts))) }
 {
     let both = sym.net.and(bad, counts)?;
-    let here = sym.net.and(sym.live, both)?;
+    let here = sym.net.under(sym.live, both)?;
     mark(sym, program, duty, here)?;
     stop(sym, program, bad)?;
     Ok(())

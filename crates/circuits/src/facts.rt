@@ -1,0 +1,271 @@
+// What follows wherever a bit is true: other bits, polynomials that are 0, and with them the values of bits.
+use crate::hints::Hints;
+use crate::words::Words;
+use crate::zeros::Zeros;
+use crate::{Bit, NetNode, not};
+use polynomials::{MOST_FACTORS, MOST_FACTS, Polynomial, Term, masked, reduce};
+use std::alloc::Global;
+use wv_base::OutOfMemory;
+
+/// Two bits.
+#[derive(Clone, Copy)]
+struct Pair {
+    left: Bit,
+    right: Bit,
+}
+
+// so many bits are taken apart
+const MOST_KNOWN: usize = 128;
+
+// so many truths are looked up
+const MOST_TRUTHS: usize = 32;
+
+// conjunctions are looked into so deep
+const DEPTH: u32 = 5;
+
+// what is conjoined in a bit that isn't negated
+fn arguments(nodes: &[NetNode], bit: Bit) -> Option<Pair> {
+    if bit.negated {
+        return None;
+    }
+    match nodes.get(bit.node as usize) {
+        Some(NetNode::And(left, right)) => Some(Pair {
+            left: *left,
+            right: *right,
+        }),
+        _ => None,
+    }
+}
+
+// bits that are true wherever one is, the nearest first; what tells whether words are equal stays whole
+fn taken_apart(
+    alloc: Global,
+    nodes: &[NetNode],
+    zeros: &Zeros,
+    bit: Bit,
+) -> Result<Vec<Bit>, OutOfMemory> {
+    let mut known = Vec::new(alloc);
+    known.push(bit)?;
+    for at in 0..MOST_KNOWN {
+        let Some(whole) = known.get(at).copied() else {
+            break;
+        };
+        if zeros.of_node(whole.node).is_some() {
+            continue;
+        }
+        if let Some(pair) = arguments(nodes, whole) {
+            known.push(pair.left)?;
+            known.push(pair.right)?;
+        }
+    }
+    Ok(known)
+}
+
+// the value that a bit has by being one of these, or the opposite of one
+fn value_among(known: &[Bit], bit: Bit) -> Option<bool> {
+    for other in known {
+        if other.node == bit.node {
+            return Some(other.negated == bit.negated);
+        }
+    }
+    None
+}
+
+fn has_number(numbers: &[u32], number: u32) -> bool {
+    for other in numbers {
+        if *other == number {
+            return true;
+        }
+    }
+    false
+}
+
+// the unknowns of a term that are truths, each once in the list
+fn add_truths_of_term(truths: &mut Vec<u32>, term: &Term) -> Result<(), OutOfMemory> {
+    for at in 0..MOST_FACTORS {
+        let x = term.factors[at];
+        if x % 2 == 1 && truths.len() < MOST_TRUTHS && !has_number(truths, x) {
+            truths.push(x)?;
+        }
+    }
+    Ok(())
+}
+
+fn add_truths(truths: &mut Vec<u32>, polynomial: &Polynomial) -> Result<(), OutOfMemory> {
+    for term in polynomial.terms() {
+        add_truths_of_term(truths, term)?;
+    }
+    Ok(())
+}
+
+// the truths in a question and in facts
+fn truths_in(
+    alloc: Global,
+    question: &Polynomial,
+    facts: &[Polynomial],
+) -> Result<Vec<u32>, OutOfMemory> {
+    let mut truths = Vec::new(alloc);
+    add_truths(&mut truths, question)?;
+    for fact in facts {
+        add_truths(&mut truths, fact)?;
+    }
+    Ok(truths)
+}
+
+// that a truth is 1 or 0, as a polynomial that is 0
+fn truth_fact(alloc: Global, width: u32, truth: u32, value: bool) -> Result<Polynomial, OutOfMemory>
+    requires { width ≤ 64 }
+{
+    let mut fact = Polynomial::unknown(alloc, truth)?;
+    if value {
+        let _ = fact.add_term(width, u64::MAX, [0; 6])?;
+    }
+    Ok(fact)
+}
+
+// the truths of a question and of facts that are known, as facts before the others
+fn with_truths(
+    alloc: Global,
+    words: &Words,
+    known: &[Bit],
+    width: u32,
+    question: &Polynomial,
+    facts: Vec<Polynomial>,
+) -> Result<Vec<Polynomial>, OutOfMemory>
+    requires { width ≤ 64 }
+{
+    let truths = truths_in(alloc, question, &facts)?;
+    let mut all = Vec::new(alloc);
+    for truth in truths {
+        if let Some(bit) = words.digit(truth) {
+            if let Some(value) = value_among(known, bit) {
+                all.push(truth_fact(alloc, width, truth, value)?)?;
+            }
+        }
+    }
+    for fact in facts {
+        all.push(fact)?;
+    }
+    Ok(all)
+}
+
+// the polynomials that are 0 modulo 2^width wherever these bits are true
+fn facts_of(
+    alloc: Global,
+    zeros: &Zeros,
+    known: &[Bit],
+    width: u32,
+) -> Result<Vec<Polynomial>, OutOfMemory> {
+    let mut facts = Vec::new(alloc);
+    for bit in known {
+        if let Some(at) = zeros.of_node(bit.node) {
+            let zero = &zeros.list[at];
+            if zero.bit == *bit && zero.width == width && facts.len() < MOST_FACTS {
+                facts.push(zero.polynomial.copy(alloc)?)?;
+            }
+        }
+    }
+    Ok(facts)
+}
+
+// whether a polynomial is 0 modulo 2^width wherever these bits are true
+fn is_zero(
+    alloc: Global,
+    hints: &Hints,
+    known: &[Bit],
+    width: u32,
+    question: &Polynomial,
+) -> Result<Option<bool>, OutOfMemory>
+    requires { width ≤ 64 }
+{
+    let facts = facts_of(alloc, &hints.zeros, known, width)?;
+    let all = with_truths(alloc, &hints.words, known, width, question, facts)?;
+    let rest = reduce(alloc, width, question.copy(alloc)?, all)?;
+    match rest.as_constant() {
+        Some(constant) => Ok(Some(masked(width, constant) == 0)),
+        None => Ok(None),
+    }
+}
+
+// the value of a bit that tells where words are equal
+fn value_of_test(
+    alloc: Global,
+    hints: &Hints,
+    known: &[Bit],
+    at: usize,
+    bit: Bit,
+) -> Result<Option<bool>, OutOfMemory> {
+    let zero = &hints.zeros.list[at];
+    if zero.width > 64 || zero.bit.node != bit.node {
+        return Ok(None);
+    }
+    let is = is_zero(alloc, hints, known, zero.width, &zero.polynomial)?;
+    match is {
+        Some(is) => Ok(Some(is == (zero.bit.negated == bit.negated))),
+        None => Ok(None),
+    }
+}
+
+// the value of a bit wherever these bits are true
+fn value_where(
+    alloc: Global,
+    nodes: &[NetNode],
+    hints: &Hints,
+    known: &[Bit],
+    depth: u32,
+    bit: Bit,
+) -> Result<Option<bool>, OutOfMemory> {
+    if let Some(value) = value_among(known, bit) {
+        return Ok(Some(value));
+    }
+    if let Some(at) = hints.zeros.of_node(bit.node) {
+        return value_of_test(alloc, hints, known, at, bit);
+    }
+    let plain = if bit.negated { not(bit) } else { bit };
+    let Some(pair) = arguments(nodes, plain) else {
+        return Ok(None);
+    };
+    if depth == 0 {
+        return Ok(None);
+    }
+    let left = value_where(alloc, nodes, hints, known, depth - 1, pair.left)?;
+    if left == Some(false) {
+        return Ok(Some(bit.negated));
+    }
+    let right = value_where(alloc, nodes, hints, known, depth - 1, pair.right)?;
+    if right == Some(false) {
+        return Ok(Some(bit.negated));
+    }
+    if left == Some(true) && right == Some(true) {
+        return Ok(Some(!bit.negated));
+    }
+    Ok(None)
+}
+
+/// The value that a bit has wherever another is true, where it is found.
+pub fn answer(
+    alloc: Global,
+    nodes: &[NetNode],
+    hints: &Hints,
+    live: Bit,
+    bit: Bit,
+) -> Result<Option<bool>, OutOfMemory> {
+    if live.node == 0 || bit.node == 0 {
+        return Ok(None);
+    }
+    let known = taken_apart(alloc, nodes, &hints.zeros, live)?;
+    value_where(alloc, nodes, hints, &known, DEPTH, bit)
+}
+
+/// The bit that two bits part by a test alone: it is true where either is.
+pub fn parted(nodes: &[NetNode], a: Bit, b: Bit) -> Option<Bit> {
+    let x = arguments(nodes, a)?;
+    let y = arguments(nodes, b)?;
+    if x.left == y.left && x.right == not(y.right) || x.left == y.right && x.right == not(y.left) {
+        return Some(x.left);
+    }
+    if x.right == y.right && x.left == not(y.left) || x.right == y.left && x.left == not(y.right) {
+        return Some(x.right);
+    }
+    None
+}
