@@ -5,3 +5,4 @@ pub mod Outcome
 pub mod Gates
 pub mod Division
 pub mod Words
+pub mod Facts

@@ -1,4 +1,11 @@
 // What follows wherever a bit is true: other bits, polynomials that are 0, and with them the values of bits.
+ghost use Rattle.std.specs.Prelude.{◌≡◌, ℕ, ◌≤◌, ◌<◌, IfOk, IfSome, List, length};
+ghost use Rattle.circuits.specs.declared.net.Bit.{Bit};
+ghost use Rattle.circuits.specs.declared.net.NetNode.{NetNode};
+ghost use Rattle.circuits.specs.Net.{IsIn, IsNet};
+ghost use Rattle.circuits.specs.Words.{AreTrue, AreZeros, IsOver, bits_of};
+ghost use Rattle.circuits.specs.Facts.{AllFollow, AreFacts, IsAnswer, IsBoth, IsEither, IsTruthFact, IsZeroWhere};
+
 use crate::hints::Hints;
 use crate::words::Words;
 use crate::zeros::Zeros;
@@ -24,7 +31,10 @@ const MOST_TRUTHS: usize = 32;
 const DEPTH: u32 = 5;
 
 // what is conjoined in a bit that isn't negated
-fn arguments(nodes: &[NetNode], bit: Bit) -> Option<Pair> {
+fn arguments(nodes: &[NetNode], bit: Bit) -> Option<Pair>
+    requires { IsNet nodes.now }
+    ensures { IfSome result (λ p. IsBoth nodes.now bit p.left p.right) }
+{
     if bit.negated {
         return None;
     }
@@ -43,7 +53,11 @@ fn taken_apart(
     nodes: &[NetNode],
     zeros: &Zeros,
     bit: Bit,
-) -> Result<Vec<Bit>, OutOfMemory> {
+) -> Result<Vec<Bit>, OutOfMemory>
+    requires net { IsNet nodes.now }
+    requires bit_in { IsIn nodes.now bit }
+    ensures { IfOk result (λ r. AllFollow nodes.now bit r.items) }
+{
     let mut known = Vec::new(alloc);
     known.push(bit)?;
     for at in 0..MOST_KNOWN {
@@ -62,7 +76,10 @@ fn taken_apart(
 }
 
 // the value that a bit has by being one of these, or the opposite of one
-fn value_among(known: &[Bit], bit: Bit) -> Option<bool> {
+fn value_among(known: &[Bit], bit: Bit) -> Option<bool>
+    ensures { IfSome result (λ r. (net : List NetNode) (here : Bit) → AllFollow net here known.now
+        → IsAnswer net here bit r) }
+{
     for other in known {
         if other.node == bit.node {
             return Some(other.negated == bit.negated);
@@ -115,6 +132,7 @@ fn truths_in(
 // that a truth is 1 or 0, as a polynomial that is 0
 fn truth_fact(alloc: Global, width: u32, truth: u32, value: bool) -> Result<Polynomial, OutOfMemory>
     requires { width ≤ 64 }
+    ensures { IfOk result (λ p. IsTruthFact width truth value p) }
 {
     let mut fact = Polynomial::unknown(alloc, truth)?;
     if value {
@@ -133,6 +151,9 @@ fn with_truths(
     facts: Vec<Polynomial>,
 ) -> Result<Vec<Polynomial>, OutOfMemory>
     requires { width ≤ 64 }
+    ensures { IfOk result (λ r. (net : List NetNode) (here : Bit) → AllFollow net here known.now
+        → AreFacts net (bits_of words.now.list.items) here width facts.items
+        → AreFacts net (bits_of words.now.list.items) here width r.items) }
 {
     let truths = truths_in(alloc, question, &facts)?;
     let mut all = Vec::new(alloc);
@@ -155,7 +176,11 @@ fn facts_of(
     zeros: &Zeros,
     known: &[Bit],
     width: u32,
-) -> Result<Vec<Polynomial>, OutOfMemory> {
+) -> Result<Vec<Polynomial>, OutOfMemory>
+    ensures { IfOk result (λ r. (net : List NetNode) (words : List (List Bit)) (here : Bit)
+        → AreZeros net words zeros.now.list.items → AllFollow net here known.now
+        → AreFacts net words here width r.items) }
+{
     let mut facts = Vec::new(alloc);
     for bit in known {
         if let Some(at) = zeros.of_node(bit.node) {
@@ -177,6 +202,9 @@ fn is_zero(
     question: &Polynomial,
 ) -> Result<Option<bool>, OutOfMemory>
     requires { width ≤ 64 }
+    ensures { IfOk result (λ r. IfSome r (λ is. (net : List NetNode) (here : Bit) → AreTrue net hints.now
+        → AllFollow net here known.now → IsOver (bits_of hints.now.words.list.items) question.now
+        → IsZeroWhere net (bits_of hints.now.words.list.items) here width question.now is)) }
 {
     let facts = facts_of(alloc, &hints.zeros, known, width)?;
     let all = with_truths(alloc, &hints.words, known, width, question, facts)?;
@@ -194,7 +222,11 @@ fn value_of_test(
     known: &[Bit],
     at: usize,
     bit: Bit,
-) -> Result<Option<bool>, OutOfMemory> {
+) -> Result<Option<bool>, OutOfMemory>
+    requires { at < length hints.now.zeros.list.items }
+    ensures { IfOk result (λ r. IfSome r (λ value. (net : List NetNode) (here : Bit) → AreTrue net hints.now
+        → AllFollow net here known.now → IsAnswer net here bit value)) }
+{
     let zero = &hints.zeros.list[at];
     if zero.width > 64 || zero.bit.node != bit.node {
         return Ok(None);
@@ -214,7 +246,12 @@ fn value_where(
     known: &[Bit],
     depth: u32,
     bit: Bit,
-) -> Result<Option<bool>, OutOfMemory> {
+) -> Result<Option<bool>, OutOfMemory>
+    requires net { IsNet nodes.now }
+    requires hints { AreTrue nodes.now hints.now }
+    ensures { IfOk result (λ r. IfSome r (λ value. (here : Bit) → AllFollow nodes.now here known.now
+        → IsAnswer nodes.now here bit value)) }
+{
     if let Some(value) = value_among(known, bit) {
         return Ok(Some(value));
     }
@@ -249,7 +286,12 @@ pub fn answer(
     hints: &Hints,
     live: Bit,
     bit: Bit,
-) -> Result<Option<bool>, OutOfMemory> {
+) -> Result<Option<bool>, OutOfMemory>
+    requires net { IsNet nodes.now }
+    requires hints { AreTrue nodes.now hints.now }
+    requires live_in { IsIn nodes.now live }
+    ensures { IfOk result (λ r. IfSome r (λ value. IsAnswer nodes.now live bit value)) }
+{
     if live.node == 0 || bit.node == 0 {
         return Ok(None);
     }
@@ -258,7 +300,10 @@ pub fn answer(
 }
 
 /// The bit that two bits part by a test alone: it is true where either is.
-pub fn parted(nodes: &[NetNode], a: Bit, b: Bit) -> Option<Bit> {
+pub fn parted(nodes: &[NetNode], a: Bit, b: Bit) -> Option<Bit>
+    requires { IsNet nodes.now }
+    ensures { IfSome result (λ r. IsEither nodes.now a b r) }
+{
     let x = arguments(nodes, a)?;
     let y = arguments(nodes, b)?;
     if x.left == y.left && x.right == not(y.right) || x.left == y.right && x.right == not(y.left) {

@@ -4,6 +4,7 @@ ghost use Rattle.circuits.specs.declared.net.NetNode.{NetNode};
 ghost use Rattle.circuits.specs.Net.{holds, IsIn, IsNet};
 ghost use Rattle.circuits.specs.Numbers.{digit, number, AreIn};
 ghost use Rattle.circuits.specs.Words.{AreWords, Continues, Tells, bits_of};
+ghost use Rattle.circuits.specs.Facts.{IsDigit};
 
 use crate::slots::{REACH, Slots};
 use crate::{Bit, NetNode};
@@ -212,8 +213,10 @@ impl Words {
     }
 
     /// The bit that an odd unknown stands for.
-    pub fn digit(&self, truth: u32) -> Option<Bit> {
-        if truth < 3 {
+    pub fn digit(&self, truth: u32) -> Option<Bit>
+        ensures { IfSome result (λ b. IsDigit (bits_of self.now.list.items) truth b) }
+    {
+        if truth < 3 || truth % 2 == 0 {
             return None;
         }
         let word = self.list.get((truth as usize - 3) / 2)?;

@@ -1,0 +1,53 @@
+-- What follows wherever a bit of a net is true.
+use Rattle.std.specs.Prelude.{◌≡◌, ℕ, ◌+◌, ◌*◌, ◌%◌, ◌^◌, ◌<◌, Bool, true, ◌&&◌, ◌||◌, cond, nat_eq, List, length}
+use Rattle.std.specs.List.{All}
+use Rattle.polynomials.specs.Values.{AreBelow, Same, factor, value}
+use Rattle.polynomials.specs.declared.polynomial.Term.{Term}
+use Rattle.circuits.specs.declared.net.Bit.{Bit}
+use Rattle.circuits.specs.declared.net.NetNode.{NetNode}
+use Rattle.circuits.specs.Net.{holds, IsIn}
+use Rattle.circuits.specs.Numbers.{digit, AreIn}
+use Rattle.circuits.specs.Words.{IsOver, unknown}
+
+-- bits that are true wherever one is
+pub record AllFollow (net : List NetNode) (here : Bit) (bits : List Bit) : Type 0 where
+  pub inside : AreIn net bits
+  pub is : (v : ℕ → Bool) → holds v net here ≡ true → All (λ b. holds v net b ≡ true) bits
+
+-- the value of a bit wherever another is true
+pub record IsAnswer (net : List NetNode) (here b : Bit) (value : Bool) : Type 0 where
+  pub is : (v : ℕ → Bool) → holds v net here ≡ true → holds v net b ≡ value
+
+-- a polynomial over words that is 0 modulo 2^width wherever a bit is true
+pub record IsFact (net : List NetNode) (words : List (List Bit)) (here : Bit) (width : ℕ) (terms : List Term) : Type 0 where
+  pub over : IsOver words terms
+  pub is : (v : ℕ → Bool) → holds v net here ≡ true → Same width (value (unknown v net words) terms) 0
+
+abbrev pub AreFacts : List NetNode → List (List Bit) → Bit → ℕ → List (List Term) → Type 0
+AreFacts net words here width facts = All (λ f. IsFact net words here width f) facts
+
+-- whether a polynomial over words is 0 modulo 2^width wherever a bit is true
+pub record IsZeroWhere (net : List NetNode) (words : List (List Bit)) (here : Bit) (width : ℕ) (terms : List Term) (value_is : Bool) : Type 0 where
+  pub is : (v : ℕ → Bool) → holds v net here ≡ true → nat_eq (value (unknown v net words) terms % 2 ^ width) 0 ≡ value_is
+
+-- a bit is the conjunction of two
+pub record IsBoth (net : List NetNode) (b left right : Bit) : Type 0 where
+  pub left_in : IsIn net left
+  pub right_in : IsIn net right
+  pub is : (v : ℕ → Bool) → holds v net b ≡ (holds v net left && holds v net right)
+
+-- a bit is true exactly where one of two is
+pub record IsEither (net : List NetNode) (left right b : Bit) : Type 0 where
+  pub inside : IsIn net b
+  pub is : (v : ℕ → Bool) → holds v net b ≡ (holds v net left || holds v net right)
+
+-- an unknown stands for a bit
+pub record IsDigit (words : List (List Bit)) (x : ℕ) (b : Bit) : Type 0 where
+  pub some : 0 < x
+  pub over : x < 2 * length words + 2
+  pub is : (v : ℕ → Bool) (net : List NetNode) → unknown v net words x ≡ digit (holds v net b)
+
+-- an unknown that is 1 or 0 makes a polynomial 0 modulo 2^width
+pub record IsTruthFact (width x : ℕ) (value_is : Bool) (terms : List Term) : Type 0 where
+  pub within : (n : ℕ) → x < n → AreBelow n terms
+  pub is : (v : ℕ → ℕ) → factor v x ≡ digit value_is → Same width (value v terms) 0
