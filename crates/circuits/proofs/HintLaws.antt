@@ -30,7 +30,7 @@ product_of_none : (v : ℕ → ℕ) → product_of v (0 ∷ 0 ∷ 0 ∷ 0 ∷ 0 
 unfolding product_of
 product_of_none v = refl
 
-none_below : (n : ℕ) → 0 < n → AreFactorsBelow n (0 ∷ 0 ∷ 0 ∷ 0 ∷ 0 ∷ 0 ∷ [])
+pub none_below : (n : ℕ) → 0 < n → AreFactorsBelow n (0 ∷ 0 ∷ 0 ∷ 0 ∷ 0 ∷ 0 ∷ [])
 none_below n h =
     All-replicate (λ (x : ℕ). x < n) 6 0 h
 
@@ -98,5 +98,5 @@ means_constant {net} {ws} {a} {b} {q} {c} {r} n l k i e =
 
 -- all hints, as words are added
 pub true_after : {net : List NetNode} {hints : Hints} (words : Words) → AreTrue net hints → AreWords net words.list.items
-    → Continues hints.words.list.items words.list.items → AreTrue net (record { words = words; zeros = hints.zeros })
+    → Continues hints.words.list.items words.list.items → AreTrue net (record { alloc = hints.alloc; words = words; zeros = hints.zeros })
 true_after {net} {hints} words t w c = record { words = w; zeros = zeros_after hints.zeros.list.items c t.zeros }

@@ -26,3 +26,4 @@ pub mod Noted
 pub mod Congruence
 pub mod HintLaws
 pub mod Unknowns
+pub mod FactLaws

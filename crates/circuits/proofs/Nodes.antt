@@ -65,7 +65,7 @@ and_value x net h at a b lt q =
     ∙ ap (λ i. holds x net a && i) (earlier x net at b lt r.right.1)
 
 -- what is at an index is within the list, and is what any default gives there
-found : (net : List NetNode) (at : ℕ) (n d : NetNode) → Some n ≡ slice_get net at → (at < length net) × (slice_index_or net at d ≡ n)
+pub found : (net : List NetNode) (at : ℕ) (n d : NetNode) → Some n ≡ slice_get net at → (at < length net) × (slice_index_or net at d ≡ n)
 found [] at n d e = cc
 found (x ∷ net) zero n d e = (omega arith, cc)
 found (x ∷ net) (suc at) n d e = let f = found net at n d e in (omega (arith, f.0), f.1)

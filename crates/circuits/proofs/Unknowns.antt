@@ -116,14 +116,14 @@ pub product_one : (v : ℕ → ℕ) → product_of v (0 ∷ 0 ∷ 0 ∷ 0 ∷ 0 
 unfolding product_of
 product_one v = refl
 
-factor_of : (v : ℕ → ℕ) (x : ℕ) → 0 < x → factor v x ≡ v x
+pub factor_of : (v : ℕ → ℕ) (x : ℕ) → 0 < x → factor v x ≡ v x
 factor_of v zero h = absurd (omega arith)
 factor_of v (suc x) h = refl
 
-place_within : (words : List (List Bit)) {bits : List Bit} (at : ℕ) → Some bits ≡ slice_get words at → at < length words
+pub place_within : (words : List (List Bit)) {bits : List Bit} (at : ℕ) → Some bits ≡ slice_get words at → at < length words
 place_within words {bits} at e = slice_get_within words at bits (sym e)
 
-word_at : (words : List (List Bit)) {bits : List Bit} (at : ℕ) → Some bits ≡ slice_get words at → get_or words at [] ≡ bits
+pub word_at : (words : List (List Bit)) {bits : List Bit} (at : ℕ) → Some bits ≡ slice_get words at → get_or words at [] ≡ bits
 word_at words {bits} at e = get_or_from_slice_get words at bits [] (sym e)
 
 unknown_even : (v : ℕ → Bool) (net : List NetNode) (words : List (List Bit)) (bits : List Bit) (at : ℕ) → Some bits ≡ slice_get words at → unknown v net words (2 * at + 2) ≡ number v net bits
@@ -135,9 +135,9 @@ unknown_even v net words bits at e =
     ∙ ap (λ k. number v net (get_or ([] ∷ words) k [])) place
     ∙ ap (number v net) (word_at words at e)
 
-unknown_odd : (v : ℕ → Bool) (net : List NetNode) (words : List (List Bit)) (b : Bit) (at : ℕ) → Some (b ∷ []) ≡ slice_get words at → unknown v net words (2 * at + 3) ≡ digit (holds v net b)
+pub unknown_odd : (v : ℕ → Bool) (net : List NetNode) (words : List (List Bit)) (b : Bit) (above : List Bit) (at : ℕ) → Some (b ∷ above) ≡ slice_get words at → unknown v net words (2 * at + 3) ≡ digit (holds v net b)
 unfolding unknown
-unknown_odd v net words b at e =
+unknown_odd v net words b above at e =
     let odd : (2 * at + 3) % 2 ≡ 1 = omega arith in
     let place : (2 * at + 3) / 2 ≡ suc at = omega arith in
     ap (λ k. cond (nat_eq k 1) (lowest v net (get_or ([] ∷ words) ((2 * at + 3) / 2) [])) (number v net (get_or ([] ∷ words) ((2 * at + 3) / 2) []))) odd
@@ -190,7 +190,7 @@ pub tells_lowest : {net : List NetNode} {words : List (List Bit)} {b : Bit} {p :
     → Tells net words w p (λ v. digit (holds v net b))
 tells_lowest {net} {words} {b} {p} w at e u = record {
   over = let lt : at < length words = place_within words at e in u.within (2 * length words + 2) (omega arith);
-  is = λ v. same_by (u.is (unknown v net words) ∙ factor_of (unknown v net words) (2 * at + 3) (omega arith) ∙ unknown_odd v net words b at e);
+  is = λ v. same_by (u.is (unknown v net words) ∙ factor_of (unknown v net words) (2 * at + 3) (omega arith) ∙ unknown_odd v net words b [] at e);
 }
 
 -- ---- words

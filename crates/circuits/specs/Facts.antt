@@ -5,7 +5,7 @@ use Rattle.polynomials.specs.Values.{AreBelow, Same, factor, value}
 use Rattle.polynomials.specs.declared.polynomial.Term.{Term}
 use Rattle.circuits.specs.declared.net.Bit.{Bit}
 use Rattle.circuits.specs.declared.net.NetNode.{NetNode}
-use Rattle.circuits.specs.Net.{holds, IsIn}
+use Rattle.circuits.specs.Net.{holds, opposite, IsIn}
 use Rattle.circuits.specs.Numbers.{digit, AreIn}
 use Rattle.circuits.specs.Words.{IsOver, unknown}
 
@@ -40,6 +40,12 @@ pub record IsBoth (net : List NetNode) (b left right : Bit) : Type 0 where
 pub record IsEither (net : List NetNode) (left right b : Bit) : Type 0 where
   pub inside : IsIn net b
   pub is : (v : ℕ → Bool) → holds v net b ≡ (holds v net left || holds v net right)
+
+-- two pairs with one bit in common, and others that are opposite
+pub record AreParted (x y z w common : Bit) : Type 0 where
+  pub is : common ≡ x
+  pub same : x ≡ z
+  pub apart : y ≡ opposite w
 
 -- an unknown stands for a bit
 pub record IsDigit (words : List (List Bit)) (x : ℕ) (b : Bit) : Type 0 where

@@ -4,7 +4,7 @@ ghost use Rattle.circuits.specs.declared.net.Bit.{Bit};
 ghost use Rattle.circuits.specs.declared.net.NetNode.{NetNode};
 ghost use Rattle.circuits.specs.Net.{IsIn, IsNet};
 ghost use Rattle.circuits.specs.Words.{AreTrue, AreZeros, IsOver, bits_of};
-ghost use Rattle.circuits.specs.Facts.{AllFollow, AreFacts, IsAnswer, IsBoth, IsEither, IsTruthFact, IsZeroWhere};
+ghost use Rattle.circuits.specs.Facts.{AllFollow, AreFacts, AreParted, IsAnswer, IsBoth, IsEither, IsTruthFact, IsZeroWhere};
 
 use crate::hints::Hints;
 use crate::words::Words;
@@ -24,8 +24,10 @@ struct Pair {
 // so many bits are taken apart
 const MOST_KNOWN: usize = 128;
 
-// so many truths are looked up
-const MOST_TRUTHS: usize = 32;
+// so many truths and so many tests are facts of one question
+const MOST_TRUTHS: usize = 24;
+
+const MOST_TESTS: usize = 24;
 
 // conjunctions are looked into so deep
 const DEPTH: u32 = 5;
@@ -61,9 +63,10 @@ fn taken_apart(
     let mut known = Vec::new(alloc);
     known.push(bit)?;
     for at in 0..MOST_KNOWN {
-        let Some(whole) = known.get(at).copied() else {
+        if at >= known.len() {
             break;
-        };
+        }
+        let whole = known[at];
         if zeros.of_node(whole.node).is_some() {
             continue;
         }
@@ -130,18 +133,23 @@ fn truths_in(
 }
 
 // that a truth is 1 or 0, as a polynomial that is 0
-fn truth_fact(alloc: Global, width: u32, truth: u32, value: bool) -> Result<Polynomial, OutOfMemory>
+fn truth_fact(
+    alloc: Global,
+    width: u32,
+    truth: u32,
+    value: bool,
+) -> Result<Option<Polynomial>, OutOfMemory>
     requires { width ≤ 64 }
-    ensures { IfOk result (λ p. IsTruthFact width truth value p) }
+    ensures { IfOk result (λ r. IfSome r (λ p. IsTruthFact width truth value p)) }
 {
     let mut fact = Polynomial::unknown(alloc, truth)?;
-    if value {
-        let _ = fact.add_term(width, u64::MAX, [0; 6])?;
+    if value && !fact.add_term(width, u64::MAX, [0; 6])? {
+        return Ok(None);
     }
-    Ok(fact)
+    Ok(Some(fact))
 }
 
-// the truths of a question and of facts that are known, as facts before the others
+// the facts, and what is known of the truths in them and in a question
 fn with_truths(
     alloc: Global,
     words: &Words,
@@ -156,16 +164,16 @@ fn with_truths(
         → AreFacts net (bits_of words.now.list.items) here width r.items) }
 {
     let truths = truths_in(alloc, question, &facts)?;
-    let mut all = Vec::new(alloc);
-    for truth in truths {
+    let mut all = facts;
+    for at in 0..truths.len() {
+        let truth = truths[at];
         if let Some(bit) = words.digit(truth) {
             if let Some(value) = value_among(known, bit) {
-                all.push(truth_fact(alloc, width, truth, value)?)?;
+                if let Some(fact) = truth_fact(alloc, width, truth, value)? {
+                    all.push(fact)?;
+                }
             }
         }
-    }
-    for fact in facts {
-        all.push(fact)?;
     }
     Ok(all)
 }
@@ -185,8 +193,9 @@ fn facts_of(
     for bit in known {
         if let Some(at) = zeros.of_node(bit.node) {
             let zero = &zeros.list[at];
-            if zero.bit == *bit && zero.width == width && facts.len() < MOST_FACTS {
-                facts.push(zero.polynomial.copy(alloc)?)?;
+            if zero.bit == *bit && zero.width == width && facts.len() < MOST_TESTS {
+                let fact = zero.polynomial.copy(alloc)?;
+                facts.push(fact)?;
             }
         }
     }
@@ -258,7 +267,10 @@ fn value_where(
     if let Some(at) = hints.zeros.of_node(bit.node) {
         return value_of_test(alloc, hints, known, at, bit);
     }
-    let plain = if bit.negated { not(bit) } else { bit };
+    let plain = Bit {
+        node: bit.node,
+        negated: false,
+    };
     let Some(pair) = arguments(nodes, plain) else {
         return Ok(None);
     };
@@ -299,18 +311,42 @@ pub fn answer(
     value_where(alloc, nodes, hints, &known, DEPTH, bit)
 }
 
-/// The bit that two bits part by a test alone: it is true where either is.
+// the bit that is the first of two pairs, whose others are opposite
+fn common(x: Pair, y: Pair) -> Option<Bit>
+    ensures { IfSome result (λ r. AreParted x.left x.right y.left y.right r) }
+{
+    if x.left == y.left && x.right == not(y.right) {
+        Some(x.left)
+    } else {
+        None
+    }
+}
+
+fn swapped(pair: Pair) -> Pair
+    ensures left { result.left ≡ pair.right }
+    ensures right { result.right ≡ pair.left }
+{
+    Pair {
+        left: pair.right,
+        right: pair.left,
+    }
+}
+
+/// The bit that a test alone parts in two: it is true where either is.
 pub fn parted(nodes: &[NetNode], a: Bit, b: Bit) -> Option<Bit>
     requires { IsNet nodes.now }
     ensures { IfSome result (λ r. IsEither nodes.now a b r) }
 {
     let x = arguments(nodes, a)?;
     let y = arguments(nodes, b)?;
-    if x.left == y.left && x.right == not(y.right) || x.left == y.right && x.right == not(y.left) {
-        return Some(x.left);
+    if let Some(whole) = common(x, y) {
+        return Some(whole);
     }
-    if x.right == y.right && x.left == not(y.left) || x.right == y.left && x.left == not(y.right) {
-        return Some(x.right);
+    if let Some(whole) = common(x, swapped(y)) {
+        return Some(whole);
     }
-    None
+    if let Some(whole) = common(swapped(x), y) {
+        return Some(whole);
+    }
+    common(swapped(x), swapped(y))
 }

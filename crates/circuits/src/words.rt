@@ -220,7 +220,8 @@ impl Words {
             return None;
         }
         let word = self.list.get((truth as usize - 3) / 2)?;
-        word.bits.first().copied()
+        let (lowest, _above) = word.bits.as_slice().split_first()?;
+        Some(*lowest)
     }
 
     /// Keeps what the number of bits is, where they aren't known yet.

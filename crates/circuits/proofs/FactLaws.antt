@@ -1,0 +1,275 @@
+-- What follows wherever a bit is true, and how it is found.
+use Rattle.std.proofs.Common.{◌≡◌, ℕ, suc, ◌+◌, ◌*◌, ◌/◌, ◌%◌, ◌^◌, ◌<◌, ◌≤◌, nat_eq, cond, Bool, true, false, not, ◌&&◌, ◌||◌, Option, Some, None, List, [], ◌∷◌, ◌++◌, length, get_or, slice_get, refl, sym, ◌∙◌, ap, subst, arith}
+use Rattle.std.specs.List.{All}
+use Rattle.std.specs.Option.{IfSome, option_eq}
+use Rattle.std.proofs.lemmas.List.Elements.{All-push, All-nil, All-get_or, All-weaker}
+use Rattle.std.proofs.lemmas.Bool.Decides.{nat_tests}
+use Rattle.std.proofs.Math.Bool.{beq}
+use Rattle.polynomials.specs.Values.{AreBelow, Same, factor, product_of, value}
+use Rattle.polynomials.specs.Calls.{IsWithTerm, IsConstant}
+use Rattle.polynomials.specs.Elimination.{IsReduced}
+use Rattle.polynomials.specs.declared.polynomial.Term.{Term}
+use Rattle.polynomials.proofs.Sameness.{same_refl, same_by, same_sym, same_trans, same_add, same_narrow}
+use Rattle.circuits.specs.declared.net.Bit.{Bit}
+use Rattle.circuits.specs.declared.net.NetNode.{NetNode}
+use Rattle.circuits.specs.declared.net.NetNode.TheVariants.{Constant, And}
+use Rattle.circuits.specs.declared.words.Word.{Word}
+use Rattle.circuits.specs.declared.zeros.Zero.{Zero}
+use Rattle.circuits.specs.Net.{holds, opposite, IsIn, IsNet, Means}
+use Rattle.circuits.specs.Numbers.{digit, AreIn}
+use Rattle.circuits.specs.Words.{unknown, bits_of, AreZeros, IsZero, IsZeroOf}
+use Rattle.circuits.specs.Facts.{AllFollow, AreFacts, AreParted, IsAnswer, IsBoth, IsDigit, IsEither, IsFact, IsTruthFact, IsZeroWhere}
+use Rattle.circuits.proofs.Nodes.{and_arguments, means_found, found}
+use Rattle.circuits.proofs.Nets.{holds-opposite, means_by, opp}
+use Rattle.circuits.proofs.Unknowns.{factor_of, found_word, place_within, product_one, unknown_odd}
+use Rattle.circuits.proofs.Congruence.{vanishes, zero_same}
+use Rattle.circuits.proofs.HintLaws.{none_below}
+use Rattle.circuits.proofs.WordLaws.{truths}
+
+-- ---- bits
+by_signs : (v : ℕ → Bool) (net : List NetNode) (n : ℕ) (s t r : Bool) → holds v net (record { node = n; negated = s }) ≡ r → holds v net (record { node = n; negated = t }) ≡ beq r (beq s t)
+by_signs v net n true true true h = h
+by_signs v net n true true false h = h
+by_signs v net n false false true h = h
+by_signs v net n false false false h = h
+by_signs v net n true false true h = holds-opposite v net (record { node = n; negated = true }) ∙ ap not h
+by_signs v net n true false false h = holds-opposite v net (record { node = n; negated = true }) ∙ ap not h
+by_signs v net n false true true h = holds-opposite v net (record { node = n; negated = false }) ∙ ap not h
+by_signs v net n false true false h = holds-opposite v net (record { node = n; negated = false }) ∙ ap not h
+
+-- a bit of a node whose bit is known
+pub sign_known : (v : ℕ → Bool) (net : List NetNode) (a b : Bit) (r : Bool) → a.node ≡ b.node → holds v net a ≡ r → holds v net b ≡ beq r (beq a.negated b.negated)
+sign_known v net a b r e h =
+    by_signs v net b.node a.negated b.negated r (ap (λ n. holds v net (record { node = n; negated = a.negated })) (sym e) ∙ h)
+
+-- an and-node, and what it conjoins
+pub both_found : (net : List NetNode) (b left right : Bit) → IsNet net → b.negated ≡ false → Some (And left right) ≡ slice_get net b.node → IsBoth net b left right
+both_found net b left right h e f =
+    let here = found net b.node (And left right) (Constant true) f in
+    let before = and_arguments net h b.node left right here.0 here.1 in
+    let means = means_found net left right b.node h f in
+    record {
+      left_in = omega (arith, here.0, before.left.1);
+      right_in = omega (arith, here.0, before.right.1);
+      is = λ v. ap (λ n. holds v net (record { node = b.node; negated = n })) e ∙ means.is v;
+    }
+
+and_swapped : (a b : Bool) → (b && a) ≡ (a && b)
+and_swapped true true = refl
+and_swapped true false = refl
+and_swapped false true = refl
+and_swapped false false = refl
+
+pub both_swapped : {net : List NetNode} {b left right : Bit} → IsBoth net b left right → IsBoth net b right left
+both_swapped {net} {b} {left} {right} h = record {
+  left_in = h.right_in;
+  right_in = h.left_in;
+  is = λ v. h.is v ∙ and_swapped (holds v net right) (holds v net left);
+}
+
+parts_are_it : (x y : Bool) → x ≡ ((x && not y) || (x && y))
+parts_are_it true true = refl
+parts_are_it true false = refl
+parts_are_it false true = refl
+parts_are_it false false = refl
+
+-- two bits that a test parts
+pub either_of : {net : List NetNode} {a b x y z w : Bit} → IsBoth net a x y → IsBoth net b z w → x ≡ z → y ≡ opposite w → IsEither net a b x
+either_of {net} {a} {b} {x} {y} {z} {w} left right e f = record {
+  inside = left.left_in;
+  is = λ v.
+      parts_are_it (holds v net x) (holds v net w)
+      ∙ ap (λ k. (holds v net x && k) || (holds v net x && holds v net w)) (sym (ap (holds v net) f ∙ holds-opposite v net w))
+      ∙ ap (λ k. k || (holds v net x && holds v net w)) (sym (left.is v))
+      ∙ ap (λ k. holds v net a || (k && holds v net w)) (ap (holds v net) e)
+      ∙ ap (λ k. holds v net a || k) (sym (right.is v));
+}
+
+pub parted_either : {net : List NetNode} {a b x y z w l m n o r : Bit} → IsBoth net a x y → IsBoth net b z w → l ≡ x → m ≡ y → n ≡ z → o ≡ w → AreParted l m n o r → IsEither net a b r
+parted_either {net} {a} {b} {x} {y} {z} {w} {l} {m} {n} {o} {r} left right el em en eo p =
+    subst (λ k. IsEither net a b k) (sym (p.is ∙ el)) (either_of left right (sym el ∙ p.same ∙ en) (sym em ∙ p.apart ∙ ap opposite eo))
+
+-- ---- bits that follow
+pub follow_own : (net : List NetNode) (b : Bit) → IsIn net b → AllFollow net b (b ∷ [])
+follow_own net b h = record {
+  inside = All-push (λ x. IsIn net x) [] b (All-nil (λ x. IsIn net x)) h;
+  is = λ v e. All-push (λ x. holds v net x ≡ true) [] b (All-nil (λ x. holds v net x ≡ true)) e;
+}
+
+left_true : (x y : Bool) → (x && y) ≡ true → x ≡ true
+left_true true y h = refl
+left_true false y h = h
+
+right_true : (x y : Bool) → (x && y) ≡ true → y ≡ true
+right_true true y h = h
+right_true false y h = cc
+
+-- what a bit that follows conjoins follows too
+pub follow_both : {net : List NetNode} {here : Bit} (bits : List Bit) (at : ℕ) (d left right : Bit) → AllFollow net here bits → at < length bits → IsBoth net (get_or bits at d) left right
+    → AllFollow net here ((bits ++ left ∷ []) ++ right ∷ [])
+follow_both {net} {here} bits at d left right f lt both =
+    let parts : (v : ℕ → Bool) → holds v net here ≡ true → (holds v net left && holds v net right) ≡ true =
+    λ v h. sym (both.is v) ∙ All-get_or (λ x. holds v net x ≡ true) bits at d lt (f.is v h) in
+    record {
+      inside = All-push (λ x. IsIn net x) (bits ++ left ∷ []) right (All-push (λ x. IsIn net x) bits left f.inside both.left_in) both.right_in;
+      is = λ v h.
+          All-push (λ x. holds v net x ≡ true) (bits ++ left ∷ []) right
+          (All-push (λ x. holds v net x ≡ true) bits left (f.is v h) (left_true (holds v net left) (holds v net right) (parts v h)))
+          (right_true (holds v net left) (holds v net right) (parts v h));
+    }
+
+-- ---- answers
+pub at_some : {A : Type 0} (P : A → Type 0) (o : Option A) (x : A) → o ≡ Some x → IfSome o P → P x
+at_some {A} P o x e h = subst (λ (k : Option A). IfSome k P) e h
+
+pub some_is : (o : Option Bool) (x : Bool) → true ≡ option_eq beq o (Some x) → o ≡ Some x
+some_is (Some true) true e = refl
+some_is (Some false) false e = refl
+some_is (Some true) false e = cc
+some_is (Some false) true e = cc
+some_is None x e = cc
+
+plain_sign : (t : Bool) → beq true t ≡ t
+plain_sign true = refl
+plain_sign false = refl
+
+pub answer_known : (net : List NetNode) (here : Bit) (known : List Bit) (at : ℕ) (d b : Bit) → at < length known → (get_or known at d).node ≡ b.node → AllFollow net here known
+    → IsAnswer net here b (beq (get_or known at d).negated b.negated)
+answer_known net here known at d b lt n f = record {
+  is = λ v h. sign_known v net (get_or known at d) b true n (All-get_or (λ x. holds v net x ≡ true) known at d lt (f.is v h)) ∙ plain_sign (beq (get_or known at d).negated b.negated);
+}
+
+pub answer_test : {net : List NetNode} {words : List (List Bit)} {here b : Bit} {is : Bool} (z : Zero) → IsZeroOf net words z.width z.polynomial z.bit → z.bit.node ≡ b.node
+    → IsZeroWhere net words here z.width z.polynomial is → IsAnswer net here b (beq is (beq z.bit.negated b.negated))
+answer_test {net} {words} {here} {b} {is} z zero n where_here = record {
+  is = λ v h. sign_known v net z.bit b is n (sym (zero.is v) ∙ where_here.is v h);
+}
+
+turned_false : (t : Bool) → beq false (beq false t) ≡ t
+turned_false true = refl
+turned_false false = refl
+
+turned_true : (t : Bool) → beq true (beq false t) ≡ not t
+turned_true true = refl
+turned_true false = refl
+
+left_false : (x y : Bool) → x ≡ false → (x && y) ≡ false
+left_false x y e = ap (λ k. k && y) e
+
+right_false : (x y : Bool) → y ≡ false → (x && y) ≡ false
+right_false true y e = e
+right_false false y e = refl
+
+-- a conjunction of which a part is false
+pub answer_left_false : {net : List NetNode} {here left right : Bit} (plain b : Bit) → IsBoth net plain left right → plain.negated ≡ false → plain.node ≡ b.node → IsAnswer net here left false
+    → IsAnswer net here b b.negated
+answer_left_false {net} {here} {left} {right} plain b both p n a = record {
+  is = λ v h.
+      sign_known v net plain b false n (both.is v ∙ left_false (holds v net left) (holds v net right) (a.is v h))
+      ∙ ap (λ s. beq false (beq s b.negated)) p ∙ turned_false b.negated;
+}
+
+pub answer_right_false : {net : List NetNode} {here left right : Bit} (plain b : Bit) → IsBoth net plain left right → plain.negated ≡ false → plain.node ≡ b.node → IsAnswer net here right false
+    → IsAnswer net here b b.negated
+answer_right_false {net} {here} {left} {right} plain b both p n a = record {
+  is = λ v h.
+      sign_known v net plain b false n (both.is v ∙ right_false (holds v net left) (holds v net right) (a.is v h))
+      ∙ ap (λ s. beq false (beq s b.negated)) p ∙ turned_false b.negated;
+}
+
+pub answer_both_true : {net : List NetNode} {here left right : Bit} (plain b : Bit) → IsBoth net plain left right → plain.negated ≡ false → plain.node ≡ b.node → IsAnswer net here left true
+    → IsAnswer net here right true → IsAnswer net here b (not b.negated)
+answer_both_true {net} {here} {left} {right} plain b both p n l r = record {
+  is = λ v h.
+      sign_known v net plain b true n (both.is v ∙ ap (λ k. k && holds v net right) (l.is v h) ∙ r.is v h)
+      ∙ ap (λ s. beq true (beq s b.negated)) p ∙ turned_true b.negated;
+}
+
+-- ---- facts
+pub zero_at : {net : List NetNode} {words : List (List Bit)} (zeros : List Zero) (at : ℕ) (d : Zero) → AreZeros net words zeros → at < length zeros → IsZero net words (get_or zeros at d)
+zero_at {net} {words} zeros at d all lt = All-get_or (λ z. IsZero net words z) zeros at d lt all
+
+zero_of : (x : ℕ) → nat_eq x 0 ≡ true → x ≡ 0
+zero_of x e = grind (arith, nat_tests)
+
+-- a test that is true wherever a bit is
+pub fact_of_test : {net : List NetNode} {words : List (List Bit)} {here : Bit} (known : List Bit) (at width : ℕ) (d : Bit) (z : Zero) → IsZeroOf net words z.width z.polynomial z.bit
+    → AllFollow net here known → at < length known → z.bit ≡ get_or known at d → z.width ≡ width → IsFact net words here width z.polynomial
+fact_of_test {net} {words} {here} known at width d z zero f lt same w = record {
+  over = zero.over;
+  is = λ v h.
+      let true_here : holds v net z.bit ≡ true = ap (holds v net) same ∙ All-get_or (λ x. holds v net x ≡ true) known at d lt (f.is v h) in
+      subst (λ k. Same k (value (unknown v net words) z.polynomial) 0) w (zero_same (zero_of (value (unknown v net words) z.polynomial % 2 ^ z.width) (zero.is v ∙ true_here)));
+}
+
+pub digit_of : (words : List Word) (w : Word) {b : Bit} {above : List Bit} (at x : ℕ) → slice_get words at ≡ Some w → w.bits.items ≡ b ∷ above → x ≡ 2 * at + 3 → IsDigit (bits_of words) x b
+digit_of words w {b} {above} at x e f h =
+    let place : Some (b ∷ above) ≡ slice_get (bits_of words) at = found_word words w (b ∷ above) at e f in
+    let lt : at < length (bits_of words) = place_within (bits_of words) at place in
+    record {
+      some = omega (arith, h);
+      over = omega (arith, h, lt);
+      is = λ v net. ap (unknown v net (bits_of words)) h ∙ unknown_odd v net (bits_of words) b above at place;
+    }
+
+pub truth_is_0 : {w x : ℕ} {p : List Term} → ((v : ℕ → ℕ) → value v p ≡ factor v x) → ((n : ℕ) → x < n → AreBelow n p) → IsTruthFact w x false p
+truth_is_0 {w} {x} {p} e h = record { within = h; is = λ v f. same_by (e v ∙ f) }
+
+pub truth_is_1 : {w x m : ℕ} {old new : List Term} → w ≤ 64 → m + 1 ≡ 2 ^ 64 → ((v : ℕ → ℕ) → value v old ≡ factor v x) → ((n : ℕ) → x < n → AreBelow n old)
+    → IsWithTerm w old m (0 ∷ 0 ∷ 0 ∷ 0 ∷ 0 ∷ 0 ∷ []) new → IsTruthFact w x true new
+truth_is_1 {w} {x} {m} {old} {new} l k e h t = record {
+  within = λ n lt. t.within n (h n lt) (none_below n (omega arith));
+  is = λ v f.
+      same_trans (t.is v)
+      (same_trans (same_by (ap (λ p. value v old + m * p) (product_one v) ∙ ap (λ p. p + m * 1) (e v ∙ f))) (vanishes w m 1 l k));
+}
+
+-- a truth whose bit is known
+pub fact_of_truth : {net : List NetNode} {words : List (List Bit)} {here b : Bit} {w x : ℕ} {is : Bool} {p : List Term} → IsTruthFact w x is p → IsDigit words x b → IsAnswer net here b is
+    → IsFact net words here w p
+fact_of_truth {net} {words} {here} {b} {w} {x} {is} {p} f d a = record {
+  over = f.within (2 * length words + 2) d.over;
+  is = λ v h. f.is (unknown v net words) (factor_of (unknown v net words) x d.some ∙ d.is v net ∙ ap digit (a.is v h));
+}
+
+pub facts_pushed : {net : List NetNode} {words : List (List Bit)} {here : Bit} {w : ℕ} {p : List Term} (facts : List (List Term)) → AreFacts net words here w facts → IsFact net words here w p
+    → AreFacts net words here w (facts ++ p ∷ [])
+facts_pushed {net} {words} {here} {w} {p} facts all f = All-push (λ x. IsFact net words here w x) facts p all f
+
+-- a question that facts reduce to a number
+pub zero_where : {net : List NetNode} {words : List (List Bit)} {here : Bit} {facts : List (List Term)} {w c r : ℕ} {question rest : List Term} → w ≤ 64 → AreFacts net words here w facts
+    → IsReduced w facts question rest → IsConstant rest c → r ≡ c % 2 ^ w → IsZeroWhere net words here w question (nat_eq r 0)
+zero_where {net} {words} {here} {facts} {w} {c} {r} {question} {rest} l all reduced constant e = record {
+  is = λ v h.
+      let f = unknown v net words in
+      let zeros = All-weaker (λ p. IsFact net words here w p) (λ p. Same w (value f p) 0) (λ p k. k.is v h) facts all in
+      let same : Same w (value f question) c = same_trans (same_sym (reduced.is f (truths v net words) zeros)) (same_narrow l (constant.is f)) in
+      ap (λ k. nat_eq k 0) (same.is ∙ sym e);
+}
+
+-- ---- conjunctions under a bit
+and_here : (x y : Bool) → (x ≡ true → y ≡ true) → x ≡ (x && y)
+and_here true y f = sym (f refl)
+and_here false y f = refl
+
+and_nowhere : (x y : Bool) → (x ≡ true → y ≡ false) → false ≡ (x && y)
+and_nowhere true y f = sym (f refl)
+and_nowhere false y f = refl
+
+pub under_true : {net : List NetNode} (here b : Bit) → IsIn net here → IsAnswer net here b true → Means net here (λ v. holds v net here && holds v net b)
+under_true {net} here b h a = record { inside = h; is = λ v. and_here (holds v net here) (holds v net b) (a.is v) }
+
+pub under_false : {net : List NetNode} {never : Bit} (here b : Bit) → Means net never (λ v. false) → IsAnswer net here b false → Means net never (λ v. holds v net here && holds v net b)
+under_false {net} {never} here b m a = record { inside = m.inside; is = λ v. m.is v ∙ and_nowhere (holds v net here) (holds v net b) (a.is v) }
+
+neither_not : (x y : Bool) → not (not x && not y) ≡ (x || y)
+neither_not true y = refl
+neither_not false true = refl
+neither_not false false = refl
+
+-- what neither of two bits is not
+pub means_either : (old : List NetNode) {new : List NetNode} (a b : Bit) {r out c d : Bit} → c ≡ opposite a → d ≡ opposite b → Means new r (λ v. holds v old c && holds v old d) → out ≡ opposite r
+    → Means new out (λ v. holds v old a || holds v old b)
+means_either old {new} a b {r} {out} {c} {d} ec ed m e =
+    means_by _ _ _ _ (opp e m)
+    (λ v. ap (λ k. not (k && holds v old d)) (ap (holds v old) ec ∙ holds-opposite v old a) ∙ ap (λ k. not (not (holds v old a) && k)) (ap (holds v old) ed ∙ holds-opposite v old b) ∙ neither_not (holds v old a) (holds v old b))
