@@ -25,12 +25,12 @@ struct Pair {
 const MOST_KNOWN: usize = 128;
 
 // so many truths and so many tests are facts of one question
-const MOST_TRUTHS: usize = 24;
+const MOST_TRUTHS: usize = MOST_FACTS / 2;
 
-const MOST_TESTS: usize = 24;
+const MOST_TESTS: usize = MOST_FACTS / 2;
 
 // conjunctions are looked into so deep
-const DEPTH: u32 = 5;
+const DEPTH: u32 = 4;
 
 // what is conjoined in a bit that isn't negated
 fn arguments(nodes: &[NetNode], bit: Bit) -> Option<Pair>
@@ -209,6 +209,7 @@ fn is_zero(
     known: &[Bit],
     width: u32,
     question: &Polynomial,
+    questions: &mut u32,
 ) -> Result<Option<bool>, OutOfMemory>
     requires { width ≤ 64 }
     ensures { IfOk result (λ r. IfSome r (λ is. (net : List NetNode) (here : Bit) → AreTrue net hints.now
@@ -217,6 +218,10 @@ fn is_zero(
 {
     let facts = facts_of(alloc, &hints.zeros, known, width)?;
     let all = with_truths(alloc, &hints.words, known, width, question, facts)?;
+    if all.is_empty() || *questions == 0 {
+        return Ok(None);
+    }
+    *questions -= 1;
     let rest = reduce(alloc, width, question.copy(alloc)?, all)?;
     match rest.as_constant() {
         Some(constant) => Ok(Some(masked(width, constant) == 0)),
@@ -231,6 +236,7 @@ fn value_of_test(
     known: &[Bit],
     at: usize,
     bit: Bit,
+    questions: &mut u32,
 ) -> Result<Option<bool>, OutOfMemory>
     requires { at < length hints.now.zeros.list.items }
     ensures { IfOk result (λ r. IfSome r (λ value. (net : List NetNode) (here : Bit) → AreTrue net hints.now
@@ -240,7 +246,7 @@ fn value_of_test(
     if zero.width > 64 || zero.bit.node != bit.node {
         return Ok(None);
     }
-    let is = is_zero(alloc, hints, known, zero.width, &zero.polynomial)?;
+    let is = is_zero(alloc, hints, known, zero.width, &zero.polynomial, questions)?;
     match is {
         Some(is) => Ok(Some(is == (zero.bit.negated == bit.negated))),
         None => Ok(None),
@@ -255,6 +261,7 @@ fn value_where(
     known: &[Bit],
     depth: u32,
     bit: Bit,
+    questions: &mut u32,
 ) -> Result<Option<bool>, OutOfMemory>
     requires net { IsNet nodes.now }
     requires hints { AreTrue nodes.now hints.now }
@@ -265,7 +272,7 @@ fn value_where(
         return Ok(Some(value));
     }
     if let Some(at) = hints.zeros.of_node(bit.node) {
-        return value_of_test(alloc, hints, known, at, bit);
+        return value_of_test(alloc, hints, known, at, bit, questions);
     }
     let plain = Bit {
         node: bit.node,
@@ -277,11 +284,11 @@ fn value_where(
     if depth == 0 {
         return Ok(None);
     }
-    let left = value_where(alloc, nodes, hints, known, depth - 1, pair.left)?;
+    let left = value_where(alloc, nodes, hints, known, depth - 1, pair.left, questions)?;
     if left == Some(false) {
         return Ok(Some(bit.negated));
     }
-    let right = value_where(alloc, nodes, hints, known, depth - 1, pair.right)?;
+    let right = value_where(alloc, nodes, hints, known, depth - 1, pair.right, questions)?;
     if right == Some(false) {
         return Ok(Some(bit.negated));
     }
@@ -291,24 +298,26 @@ fn value_where(
     Ok(None)
 }
 
-/// The value that a bit has wherever another is true, where it is found.
+/// The value that a bit has wherever another is true, where it is found. `questions` is how often facts may still be
+/// asked for it.
 pub fn answer(
     alloc: Global,
     nodes: &[NetNode],
     hints: &Hints,
     live: Bit,
     bit: Bit,
+    questions: &mut u32,
 ) -> Result<Option<bool>, OutOfMemory>
     requires net { IsNet nodes.now }
     requires hints { AreTrue nodes.now hints.now }
     requires live_in { IsIn nodes.now live }
     ensures { IfOk result (λ r. IfSome r (λ value. IsAnswer nodes.now live bit value)) }
 {
-    if live.node == 0 || bit.node == 0 {
+    if live.node == 0 || bit.node == 0 || hints.zeros.list.is_empty() {
         return Ok(None);
     }
     let known = taken_apart(alloc, nodes, &hints.zeros, live)?;
-    value_where(alloc, nodes, hints, &known, DEPTH, bit)
+    value_where(alloc, nodes, hints, &known, DEPTH, bit, questions)
 }
 
 // the bit that is the first of two pairs, whose others are opposite

@@ -7,7 +7,7 @@ ghost use Rattle.circuits.specs.Net.{holds, IsIn, IsNet, Means};
 ghost use Rattle.circuits.specs.Numbers.{digit, number, AreIn};
 ghost use Rattle.circuits.specs.Words.{AreOperands, AreTrue, Asks, Continues, Tells, bits_of};
 
-use crate::words::Words;
+use crate::words::{Words, lone_digit};
 use crate::zeros::Zeros;
 use crate::{Bit, NetNode};
 use polynomials::{Polynomial, masked, multiply};
@@ -321,6 +321,10 @@ impl Hints {
         requires tells { Means nodes.now bit (λ v. nat_eq (number v nodes.now a.now) (number v nodes.now b.now)) }
         ensures hints { AreTrue nodes.now self.new }
     {
+        // (a digit alone may be a conjunction, which facts are to look into)
+        if lone_digit(a).is_some() && lone_digit(b).is_some() {
+            return;
+        }
         if let Some(difference) = self.difference(alloc, nodes, a, b) {
             self.zeros.add(a.len() as u32, difference, bit);
         }

@@ -35,7 +35,12 @@ pub struct Net {
     inputs: u32,
     shared: Shared,
     hints: Hints,
+    /// how many questions facts may still be asked
+    questions: u32,
 }
+
+// so many questions facts are asked for a net; each takes some milliseconds at most
+const MOST_QUESTIONS: u32 = 1000;
 
 impl Model for Net {
     ghost use Rattle.std.specs.Prelude.{List};
@@ -91,6 +96,7 @@ impl Net {
             inputs: 0,
             shared: Shared::new(alloc),
             hints: Hints::new(alloc),
+            questions: MOST_QUESTIONS,
         })
     }
 
@@ -282,7 +288,16 @@ impl Net {
         ensures value { IfOk result (λ r. Means self.new r (λ v. holds v self.old live && holds v self.old bit)) }
         ensures refused { IfErr result (λ e. self.new ≡ self.old) }
     {
-        let known = answer(self.hints.alloc, &self.nodes, &self.hints, live, bit);
+        let mut questions = self.questions;
+        let known = answer(
+            self.hints.alloc,
+            &self.nodes,
+            &self.hints,
+            live,
+            bit,
+            &mut questions,
+        );
+        self.questions = questions;
         match known {
             Ok(Some(true)) => Ok(live),
             Ok(Some(false)) => Ok(not(self.yes())),

@@ -93,8 +93,8 @@ int main() {
     },
 ];
 
-// Programs whose checks hold whatever is drawn, without an assumption.
-const SETTLED: [Case; 3] = [
+// Programs whose obligations are decided by words and facts alone.
+const SETTLED: [Case; 5] = [
     Case {
         name: "the same product twice",
         source: "\
@@ -146,6 +146,48 @@ int main() {
 }
 ",
         claims: &[],
+    },
+    Case {
+        name: "an equality that a run has assumed",
+        source: "\
+void reach_error() { }
+int __VERIFIER_nondet_int();
+int main() {
+  int x = __VERIFIER_nondet_int();
+  int y = __VERIFIER_nondet_int();
+  if (x != y * y) {
+    return 0;
+  }
+  if (x * y != y * y * y || x + 1 != y * y + 1) {
+    reach_error();
+  }
+  return 0;
+}
+",
+        claims: &[],
+    },
+    Case {
+        name: "a square by sums",
+        source: "\
+void reach_error() { }
+int __VERIFIER_nondet_int();
+int main() {
+  int n = __VERIFIER_nondet_int();
+  unsigned int i = 0;
+  unsigned int s = 0;
+  unsigned int d = 1;
+  while (i < n) {
+    s = s + d;
+    d = d + 2;
+    i = i + 1;
+  }
+  if (s != i * i) {
+    reach_error();
+  }
+  return 0;
+}
+",
+        claims: &[(Loop, 8, "s == i * i && d == 2 * i + 1")],
     },
 ];
 

@@ -9,7 +9,7 @@ use std::alloc::Global;
 use wv_base::OutOfMemory;
 
 // so many multiples of one fact are taken from a polynomial
-const MOST_STEPS: usize = 64;
+const MOST_STEPS: usize = 32;
 
 /// The polynomial without the terms that the leading term of the fact divides, as far as the limits allow.
 pub(crate) fn divide(

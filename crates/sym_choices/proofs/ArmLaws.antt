@@ -72,18 +72,6 @@ module _ (w : ℤ) where
   pub chosen_done : (ls : List ArmLabel) → entered_by false (not (list_any (is_case w) ls)) ls (map (is_case w) ls) ≡ done_from (arm_for w ls) ls
   chosen_done ls = chosen_by (list_any (is_case w) ls) ls refl
 
--- ---- one of two bits
-not_neither : (a b : Bool) → not (not a && not b) ≡ (a || b)
-not_neither true b = refl
-not_neither false true = refl
-not_neither false false = refl
-
-pub either_means : (old new : List NetNode) (a b x y r z : Bit) → IsIn old a → IsIn old b → x ≡ opposite a → y ≡ opposite b → Means new r (λ v. holds v old x && holds v old y) → z ≡ opposite r
-    → Means new z (λ v. holds v old a || holds v old b)
-either_means old new a b x y r z ha hb ex ey m ez =
-    means_by new z (λ v. not (not (holds v old a) && not (holds v old b))) (λ v. holds v old a || holds v old b)
-    (opp ez (and_of {a = x} {b = y} {f = λ v. not (holds v old a)} {g = λ v. not (holds v old b)} m (opp ex (own old a ha)) (opp ey (own old b hb)))) (λ v. not_neither (holds v old a) (holds v old b))
-
 -- ---- some bit of a list
 or_thrice : (a b c : Bool) → ((a || b) || c) ≡ (a || (b || c))
 or_thrice true b c = refl

@@ -16,17 +16,6 @@ use std::alloc::Global;
 use sym_state::Sym;
 use wv_base::OutOfMemory;
 
-// Is one of two bits true?
-fn either(net: &mut Net, a: Bit, b: Bit) -> Result<Bit, OutOfMemory>
-    requires a_in { IsIn net.old a }
-    requires b_in { IsIn net.old b }
-    requires room { length net.old < 2 ^ 29 }
-    ensures grown { Grown 1 net.old net.new }
-    ensures value { IfOk result (λ r. Means net.new r (λ v. holds v net.old a || holds v net.old b)) }
-{
-    net.together(a, b)
-}
-
 // Is one of the bits true?
 fn any_of(net: &mut Net, bits: &[Bit]) -> Result<Bit, OutOfMemory>
     requires bits_in { AreIn net.old bits.now }
@@ -36,7 +25,7 @@ fn any_of(net: &mut Net, bits: &[Bit]) -> Result<Bit, OutOfMemory>
 {
     let mut any = not(net.yes());
     for bit in bits {
-        any = either(net, any, *bit)?;
+        any = net.together(any, *bit)?;
     }
     Ok(any)
 }
@@ -69,7 +58,7 @@ fn entries(
     let mut entered = not(net.yes());
     let mut out = Vec::new(alloc);
     for (index, arm) in arms.iter().enumerate() {
-        entered = either(net, entered, entry(arm.label, cases[index], none))?;
+        entered = net.together(entered, entry(arm.label, cases[index], none))?;
         out.push(entered)?;
     }
     Ok(out)

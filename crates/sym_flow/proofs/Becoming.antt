@@ -19,18 +19,6 @@ use Rattle.sym_state.specs.Standing.{Stand, stand, cell_at, IsCell, IsState, Add
 use Rattle.sym_state.proofs.Nets.{added_of, added_then, holds_added, typed_added, in_added, state_grown, stand_grown}
 use Rattle.sym_flow.specs.Ways.{Became, cut_to, fresh_again, fresh_broken, behind_body, behind_loop, leaving, going_again, going_back, giving}
 
--- the opposite of what two opposites both are
-not_neither : (a b : Bool) → not (not a && not b) ≡ (a || b)
-not_neither true b = refl
-not_neither false true = refl
-not_neither false false = refl
-
-pub either_means : (old new : List NetNode) (a b x y r z : Bit) → IsIn old a → IsIn old b → x ≡ opposite a → y ≡ opposite b → Means new r (λ v. holds v old x && holds v old y) → z ≡ opposite r
-    → Means new z (λ v. holds v old a || holds v old b)
-either_means old new a b x y r z ha hb ex ey m ez =
-    means_by new z (λ v. not (not (holds v old a) && not (holds v old b))) (λ v. holds v old a || holds v old b)
-    (opp ez (and_of {a = x} {b = y} {f = λ v. not (holds v old a)} {g = λ v. not (holds v old b)} m (opp ex (own old a ha)) (opp ey (own old b hb)))) (λ v. not_neither (holds v old a) (holds v old b))
-
 pub never_means : (net : List NetNode) (always r : Bit) → Means net always (λ v. true) → r ≡ opposite always → Means net r (λ v. false)
 never_means net always r m e = opp e m
 

@@ -5,7 +5,7 @@ ghost use Rattle.circuits.specs.Net.{holds, Grown, IsIn, Means};
 ghost use Rattle.sym_state.specs.Standing.{IsState, Turned, stopped};
 ghost use Rattle.sym_flow.specs.Calling.{Enters, IsAround, IsAroundIn, CameBack};
 
-use crate::ways::{either, never};
+use crate::ways::never;
 use c_core::{IntType, Program};
 use circuits::{Bit, Bits, Net, const_bits};
 use std::alloc::Global;
@@ -75,9 +75,9 @@ fn all_ways(
     ensures value { IfOk result (λ r. Means net.new r
         (λ v. holds v net.old live || (holds v net.old broken || (holds v net.old again || holds v net.old gave)))) }
 {
-    let two = either(net, again, gave)?;
-    let three = either(net, broken, two)?;
-    let four = either(net, live, three)?;
+    let two = net.together(again, gave)?;
+    let three = net.together(broken, two)?;
+    let four = net.together(live, three)?;
     Ok(four)
 }
 

@@ -5,7 +5,7 @@ ghost use Rattle.circuits.specs.Net.{holds, IsIn};
 ghost use Rattle.sym_state.specs.Standing.{IsState};
 ghost use Rattle.sym_flow.specs.Ways.{Became, cut_to, fresh_again, fresh_broken, behind_body, behind_loop};
 
-use crate::ways::{either, never};
+use crate::ways::never;
 use c_core::Program;
 use circuits::Bit;
 use sym_state::Sym;
@@ -43,8 +43,8 @@ pub fn end_body(
     ensures { IfOk result (λ r. Became (program_view program.now) 1 sym.old sym.new
         (λ v. behind_body (holds v sym.old.net kept) cells)) }
 {
-    let together = either(&mut sym.net, sym.live, sym.again)?;
-    sym.live = together;
+    let here = sym.net.together(sym.live, sym.again)?;
+    sym.live = here;
     sym.again = kept;
     sym.cells.truncate(cells);
     Ok(())
@@ -74,8 +74,8 @@ pub fn end_loop(
     ensures { IfOk result (λ r. Became (program_view program.now) 1 sym.old sym.new
         (λ v. behind_loop (holds v sym.old.net kept) cells)) }
 {
-    let together = either(&mut sym.net, sym.live, sym.broken)?;
-    sym.live = together;
+    let here = sym.net.together(sym.live, sym.broken)?;
+    sym.live = here;
     sym.broken = kept;
     sym.cells.truncate(cells);
     Ok(())

@@ -13,17 +13,6 @@ use std::alloc::Global;
 use sym_state::Sym;
 use wv_base::OutOfMemory;
 
-/// Is one of two bits true?
-pub fn either(net: &mut Net, a: Bit, b: Bit) -> Result<Bit, OutOfMemory>
-    requires a_in { IsIn net.old a }
-    requires b_in { IsIn net.old b }
-    requires room { length net.old < 2 ^ 29 }
-    ensures grown { Grown 1 net.old net.new }
-    ensures value { IfOk result (λ r. Means net.new r (λ v. holds v net.old a || holds v net.old b)) }
-{
-    net.together(a, b)
-}
-
 /// No bit is true under any input.
 pub fn never(net: &Net) -> Bit
     ensures { Means net.now result (λ v. false) }
@@ -37,7 +26,7 @@ pub fn leave_loop(sym: &mut Sym, program: &Program) -> Result<(), OutOfMemory>
     requires room { length sym.old.net < 2 ^ 28 }
     ensures { IfOk result (λ r. Became (program_view program.now) 1 sym.old sym.new (λ v. leaving)) }
 {
-    let out = either(&mut sym.net, sym.broken, sym.live)?;
+    let out = sym.net.together(sym.broken, sym.live)?;
     sym.broken = out;
     sym.live = never(&sym.net);
     Ok(())
@@ -49,7 +38,7 @@ pub fn go_again(sym: &mut Sym, program: &Program) -> Result<(), OutOfMemory>
     requires room { length sym.old.net < 2 ^ 28 }
     ensures { IfOk result (λ r. Became (program_view program.now) 1 sym.old sym.new (λ v. going_again)) }
 {
-    let on = either(&mut sym.net, sym.again, sym.live)?;
+    let on = sym.net.together(sym.again, sym.live)?;
     sym.again = on;
     sym.live = never(&sym.net);
     Ok(())
@@ -61,7 +50,7 @@ pub fn go_back(sym: &mut Sym, program: &Program) -> Result<(), OutOfMemory>
     requires room { length sym.old.net < 2 ^ 28 }
     ensures { IfOk result (λ r. Became (program_view program.now) 1 sym.old sym.new (λ v. going_back)) }
 {
-    let back = either(&mut sym.net, sym.gave, sym.live)?;
+    let back = sym.net.together(sym.gave, sym.live)?;
     sym.gave = back;
     sym.live = never(&sym.net);
     Ok(())

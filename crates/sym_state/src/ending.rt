@@ -44,7 +44,8 @@ pub fn join(sym: &mut Sym, program: &Program, other: Bit) -> Result<(), OutOfMem
     ensures { IfOk result (λ r. Turned (program_view program.now) 1 0 sym.old sym.new
         (λ v. with_live (holds v sym.old.net other || holds v sym.old.net sym.old.live))) }
 {
-    sym.live = sym.net.together(other, sym.live)?;
+    let live = sym.net.together(other, sym.live)?;
+    sym.live = live;
     Ok(())
 }
 

@@ -339,7 +339,7 @@ expressions::eval_where-join-requires-clause-room t c =
 
 pub expressions::eval_where-returns : goal.expressions::eval_where-returns
 expressions::eval_where-returns t c =
-    where_values (program_of c.args.walk.now) (mode_of c.args.walk.now) c.args.depth c.args.at c.args.sym.now c.narrow.new.sym c.eval.new.sym c.join.new.sym c.and.new.self c.args.go c.not.result c.in_ok-skipped.skipped (expr_view c.args.e.now) c.in_ok-r.r.bits c.requires.ready c.not.ensures
+    where_values (program_of c.args.walk.now) (mode_of c.args.walk.now) c.args.depth c.args.at c.args.sym.now c.narrow.new.sym c.eval.new.sym c.join.new.sym c.under.new.self c.args.go c.not.result c.in_ok-skipped.skipped (expr_view c.args.e.now) c.in_ok-r.r.bits c.requires.ready c.not.ensures
     c.in_ok-skipped.ensures.grown c.in_ok-skipped.ensures.value c.in_ok-narrow.ensures c.in_ok-r.ensures c.in_ok-join.ensures
 
 pub expressions::logic-eval-requires : goal.expressions::logic-eval-requires

@@ -8,5 +8,5 @@ loop-bit-init c = some_none c.args.bits.now c.args.bits.now c.not-any.result c.a
 
 pub loop-bit-preserved : goal.loop-bit-preserved
 loop-bit-preserved c =
-    some_on c.args.bits.now c.loop-bit.bit-index (record { node = 0; negated = false }) _ c.loop-bit-test.true refl c.loop-bit.any c.in_ok-any.any c.args.net.now c.loop-bit.net c.either.new.net c.requires.bits_in c.loop-bit.invariant
+    some_on c.args.bits.now c.loop-bit.bit-index (record { node = 0; negated = false }) _ c.loop-bit-test.true refl c.loop-bit.any c.in_ok-any.any c.args.net.now c.loop-bit.net c.together.new.self c.requires.bits_in c.loop-bit.invariant
     c.in_ok-any.ensures.grown c.in_ok-any.ensures.value

@@ -4,4 +4,4 @@ use Rattle.sym_flow.proofs.ways.go_back.Goals as goal
 
 pub returns : goal.returns
 returns c =
-    back_became (program_view c.args.program.now) c.args.sym.now c.either.new.net c.in_ok-back.back c.never-sym.result c.requires.fits c.in_ok-back.ensures.grown c.in_ok-back.ensures.value c.never-sym.ensures
+    back_became (program_view c.args.program.now) c.args.sym.now c.together.new.self c.in_ok-back.back c.never-sym.result c.requires.fits c.in_ok-back.ensures.grown c.in_ok-back.ensures.value c.never-sym.ensures

@@ -8,5 +8,5 @@ mark-requires-clause-fits c = state_grown (program_view c.args.program.now) c.in
 
 pub returns : goal.returns
 returns c =
-    fail_turned (program_view c.args.program.now) c.args.sym.now c.mark.new.sym c.stop.new.sym c.and.new.self c.args.bad c.in_ok-here.here c.args.duty c.requires.fits c.requires.bad_in
+    fail_turned (program_view c.args.program.now) c.args.sym.now c.mark.new.sym c.stop.new.sym c.under.new.self c.args.bad c.in_ok-here.here c.args.duty c.requires.fits c.requires.bad_in
     c.in_ok-here.ensures.grown c.in_ok-here.ensures.value c.in_ok-mark.ensures c.in_ok-stop.ensures
