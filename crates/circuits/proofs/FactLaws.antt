@@ -1,22 +1,21 @@
 -- What follows wherever a bit is true, and how it is found.
-use Rattle.std.proofs.Common.{◌≡◌, ℕ, suc, ◌+◌, ◌*◌, ◌/◌, ◌%◌, ◌^◌, ◌<◌, ◌≤◌, nat_eq, cond, Bool, true, false, not, ◌&&◌, ◌||◌, Option, Some, None, List, [], ◌∷◌, ◌++◌, length, get_or, slice_get, refl, sym, ◌∙◌, ap, subst, arith}
-use Rattle.std.specs.List.{All}
+use Rattle.std.proofs.Common.{◌≡◌, ℕ, ◌+◌, ◌*◌, ◌%◌, ◌^◌, ◌<◌, ◌≤◌, nat_eq, Bool, true, false, not, ◌&&◌, ◌||◌, Option, Some, None, List, [], ◌∷◌, ◌++◌, length, get_or, slice_get, refl, sym, ◌∙◌, ap, subst, arith}
 use Rattle.std.specs.Option.{IfSome, option_eq}
 use Rattle.std.proofs.lemmas.List.Elements.{All-push, All-nil, All-get_or, All-weaker}
 use Rattle.std.proofs.lemmas.Bool.Decides.{nat_tests}
 use Rattle.std.proofs.Math.Bool.{beq}
-use Rattle.polynomials.specs.Values.{AreBelow, Same, factor, product_of, value}
+use Rattle.polynomials.specs.Values.{AreBelow, Same, factor, value}
 use Rattle.polynomials.specs.Calls.{IsWithTerm, IsConstant}
 use Rattle.polynomials.specs.Elimination.{IsReduced}
 use Rattle.polynomials.specs.declared.polynomial.Term.{Term}
-use Rattle.polynomials.proofs.Sameness.{same_refl, same_by, same_sym, same_trans, same_add, same_narrow}
+use Rattle.polynomials.proofs.Sameness.{same_by, same_sym, same_trans, same_narrow}
 use Rattle.circuits.specs.declared.net.Bit.{Bit}
 use Rattle.circuits.specs.declared.net.NetNode.{NetNode}
 use Rattle.circuits.specs.declared.net.NetNode.TheVariants.{Constant, And}
 use Rattle.circuits.specs.declared.words.Word.{Word}
 use Rattle.circuits.specs.declared.zeros.Zero.{Zero}
 use Rattle.circuits.specs.Net.{holds, opposite, IsIn, IsNet, Means}
-use Rattle.circuits.specs.Numbers.{digit, AreIn}
+use Rattle.circuits.specs.Numbers.{digit}
 use Rattle.circuits.specs.Words.{unknown, bits_of, AreZeros, IsZero, IsZeroOf}
 use Rattle.circuits.specs.Facts.{AllFollow, AreFacts, AreParted, IsAnswer, IsBoth, IsDigit, IsEither, IsFact, IsTruthFact, IsZeroWhere}
 use Rattle.circuits.proofs.Nodes.{and_arguments, means_found, found}

@@ -1,5 +1,5 @@
 -- What follows wherever a bit of a net is true.
-use Rattle.std.specs.Prelude.{◌≡◌, ℕ, ◌+◌, ◌*◌, ◌%◌, ◌^◌, ◌<◌, Bool, true, ◌&&◌, ◌||◌, cond, nat_eq, List, length}
+use Rattle.std.specs.Prelude.{◌≡◌, ℕ, ◌+◌, ◌*◌, ◌%◌, ◌^◌, ◌<◌, Bool, true, ◌&&◌, ◌||◌, nat_eq, List, length}
 use Rattle.std.specs.List.{All}
 use Rattle.polynomials.specs.Values.{AreBelow, Same, factor, value}
 use Rattle.polynomials.specs.declared.polynomial.Term.{Term}

@@ -1,4 +1,4 @@
-use Rattle.std.proofs.Common.{Bool, Some, true, false, refl}
+use Rattle.std.proofs.Common.{true, false, refl}
 use Rattle.circuits.specs.declared.net.Bit.{Bit}
 use Rattle.circuits.specs.Facts.{AllFollow, IsAnswer}
 use Rattle.circuits.proofs.FactLaws.{answer_left_false, answer_right_false, answer_both_true, at_some, some_is}

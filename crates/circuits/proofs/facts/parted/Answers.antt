@@ -1,6 +1,5 @@
-use Rattle.std.proofs.Common.{◌≡◌, refl}
+use Rattle.std.proofs.Common.{refl}
 use Rattle.std.proofs.lemmas.Option.{IfSome_then}
-use Rattle.circuits.specs.Facts.{IsBoth}
 use Rattle.circuits.proofs.FactLaws.{both_swapped, parted_either}
 use Rattle.circuits.proofs.facts.parted.Goals as goal
 

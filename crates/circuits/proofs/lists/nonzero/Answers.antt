@@ -1,6 +1,5 @@
 use Rattle.circuits.proofs.Nets.{grown_not, grown_same, grown_from, grown_until}
 use Rattle.circuits.proofs.Carrying.{counts_same}
-use Rattle.circuits.proofs.Counting.{are_in_later}
 use Rattle.circuits.proofs.Noted.{zero_operands, zero_operands_later, zero_known, zero_noted, zero_after}
 use Rattle.circuits.proofs.lists.nonzero.Goals as goal
 
