@@ -1,8 +1,9 @@
 -- What follows wherever a bit is true, and how it is found.
 use Rattle.std.proofs.Common.{◌≡◌, ℕ, ◌+◌, ◌*◌, ◌%◌, ◌^◌, ◌<◌, ◌≤◌, nat_eq, Bool, true, false, not, ◌&&◌, ◌||◌, Option, Some, None, List, [], ◌∷◌, ◌++◌, length, get_or, slice_get, refl, sym, ◌∙◌, ap, subst, arith}
-use Rattle.std.specs.Option.{IfSome, option_eq}
+use Rattle.std.specs.Option.{IfSome}
 use Rattle.std.proofs.lemmas.List.Elements.{All-push, All-nil, All-get_or, All-weaker}
 use Rattle.std.proofs.lemmas.Bool.Decides.{nat_tests}
+use Rattle.std.proofs.lemmas.Option.{IfSome_then}
 use Rattle.std.proofs.Math.Bool.{beq}
 use Rattle.polynomials.specs.Values.{AreBelow, Same, factor, value}
 use Rattle.polynomials.specs.Calls.{IsWithTerm, IsConstant}
@@ -17,7 +18,7 @@ use Rattle.circuits.specs.declared.zeros.Zero.{Zero}
 use Rattle.circuits.specs.Net.{holds, opposite, IsIn, IsNet, Means}
 use Rattle.circuits.specs.Numbers.{digit}
 use Rattle.circuits.specs.Words.{unknown, bits_of, AreZeros, IsZero, IsZeroOf}
-use Rattle.circuits.specs.Facts.{AllFollow, AreFacts, AreParted, IsAnswer, IsBoth, IsDigit, IsEither, IsFact, IsTruthFact, IsZeroWhere}
+use Rattle.circuits.specs.Facts.{AllFollow, AreFacts, AreParted, IsAnswer, IsBoth, IsConjoined, IsDigit, IsEither, IsFact, IsTruthFact, IsZeroWhere}
 use Rattle.circuits.proofs.Nodes.{and_arguments, means_found, found}
 use Rattle.circuits.proofs.Nets.{holds-opposite, means_by, opp}
 use Rattle.circuits.proofs.Unknowns.{factor_of, found_word, place_within, product_one, unknown_odd}
@@ -121,13 +122,6 @@ follow_both {net} {here} bits at d left right f lt both =
 pub at_some : {A : Type 0} (P : A → Type 0) (o : Option A) (x : A) → o ≡ Some x → IfSome o P → P x
 at_some {A} P o x e h = subst (λ (k : Option A). IfSome k P) e h
 
-pub some_is : (o : Option Bool) (x : Bool) → true ≡ option_eq beq o (Some x) → o ≡ Some x
-some_is (Some true) true e = refl
-some_is (Some false) false e = refl
-some_is (Some true) false e = cc
-some_is (Some false) true e = cc
-some_is None x e = cc
-
 plain_sign : (t : Bool) → beq true t ≡ t
 plain_sign true = refl
 plain_sign false = refl
@@ -144,13 +138,11 @@ answer_test {net} {words} {here} {b} {is} z zero n where_here = record {
   is = λ v h. sign_known v net z.bit b is n (sym (zero.is v) ∙ where_here.is v h);
 }
 
-turned_false : (t : Bool) → beq false (beq false t) ≡ t
-turned_false true = refl
-turned_false false = refl
-
-turned_true : (t : Bool) → beq true (beq false t) ≡ not t
-turned_true true = refl
-turned_true false = refl
+turned : (r t : Bool) → beq r (beq false t) ≡ not (beq r t)
+turned true true = refl
+turned true false = refl
+turned false true = refl
+turned false false = refl
 
 left_false : (x y : Bool) → x ≡ false → (x && y) ≡ false
 left_false x y e = ap (λ k. k && y) e
@@ -159,29 +151,27 @@ right_false : (x y : Bool) → y ≡ false → (x && y) ≡ false
 right_false true y e = e
 right_false false y e = refl
 
--- a conjunction of which a part is false
-pub answer_left_false : {net : List NetNode} {here left right : Bit} (plain b : Bit) → IsBoth net plain left right → plain.negated ≡ false → plain.node ≡ b.node → IsAnswer net here left false
-    → IsAnswer net here b b.negated
-answer_left_false {net} {here} {left} {right} plain b both p n a = record {
-  is = λ v h.
-      sign_known v net plain b false n (both.is v ∙ left_false (holds v net left) (holds v net right) (a.is v h))
-      ∙ ap (λ s. beq false (beq s b.negated)) p ∙ turned_false b.negated;
-}
+pub conjoined_left : (right : Option Bool) → IsConjoined (Some false) right false
+conjoined_left right = record { is = λ x y e f. left_false x y e }
 
-pub answer_right_false : {net : List NetNode} {here left right : Bit} (plain b : Bit) → IsBoth net plain left right → plain.negated ≡ false → plain.node ≡ b.node → IsAnswer net here right false
-    → IsAnswer net here b b.negated
-answer_right_false {net} {here} {left} {right} plain b both p n a = record {
-  is = λ v h.
-      sign_known v net plain b false n (both.is v ∙ right_false (holds v net left) (holds v net right) (a.is v h))
-      ∙ ap (λ s. beq false (beq s b.negated)) p ∙ turned_false b.negated;
-}
+pub conjoined_right : (left : Option Bool) → IsConjoined left (Some false) false
+conjoined_right left = record { is = λ x y e f. right_false x y f }
 
-pub answer_both_true : {net : List NetNode} {here left right : Bit} (plain b : Bit) → IsBoth net plain left right → plain.negated ≡ false → plain.node ≡ b.node → IsAnswer net here left true
-    → IsAnswer net here right true → IsAnswer net here b (not b.negated)
-answer_both_true {net} {here} {left} {right} plain b both p n l r = record {
+pub conjoined_true : IsConjoined (Some true) (Some true) true
+conjoined_true = record { is = λ x y e f. ap (λ k. k && y) e ∙ f }
+
+pub answers_at : (net : List NetNode) (known : List Bit) (b here : Bit) (o : Option Bool) → IfSome o (λ r. (h : Bit) → AllFollow net h known → IsAnswer net h b r) → AllFollow net here known
+    → IfSome o (λ r. IsAnswer net here b r)
+answers_at net known b here (Some r) a f = a here f
+answers_at net known b here None a f = tt
+
+-- a conjunction, or its opposite, by its parts
+pub answer_conjoined : {net : List NetNode} {here left right : Bit} {o p : Option Bool} {value : Bool} (plain b : Bit) → IsBoth net plain left right → plain.negated ≡ false → plain.node ≡ b.node
+    → IfSome o (λ l. IsAnswer net here left l) → IfSome p (λ k. IsAnswer net here right k) → IsConjoined o p value → IsAnswer net here b (not (beq value b.negated))
+answer_conjoined {net} {here} {left} {right} {o} {p} {value} plain b both s n l r c = record {
   is = λ v h.
-      sign_known v net plain b true n (both.is v ∙ ap (λ k. k && holds v net right) (l.is v h) ∙ r.is v h)
-      ∙ ap (λ s. beq true (beq s b.negated)) p ∙ turned_true b.negated;
+      sign_known v net plain b value n (both.is v ∙ c.is (holds v net left) (holds v net right) (IfSome_then o l (λ x a. a.is v h)) (IfSome_then p r (λ x a. a.is v h)))
+      ∙ ap (λ k. beq value (beq k b.negated)) s ∙ turned value b.negated;
 }
 
 -- ---- facts

@@ -1,5 +1,5 @@
 -- What follows wherever a bit of a net is true.
-use Rattle.std.specs.Prelude.{◌≡◌, ℕ, ◌+◌, ◌*◌, ◌%◌, ◌^◌, ◌<◌, Bool, true, ◌&&◌, ◌||◌, nat_eq, List, length}
+use Rattle.std.specs.Prelude.{◌≡◌, ℕ, ◌+◌, ◌*◌, ◌%◌, ◌^◌, ◌<◌, Bool, true, ◌&&◌, ◌||◌, nat_eq, List, length, Option, IfSome}
 use Rattle.std.specs.List.{All}
 use Rattle.polynomials.specs.Values.{AreBelow, Same, factor, value}
 use Rattle.polynomials.specs.declared.polynomial.Term.{Term}
@@ -35,6 +35,10 @@ pub record IsBoth (net : List NetNode) (b left right : Bit) : Type 0 where
   pub left_in : IsIn net left
   pub right_in : IsIn net right
   pub is : (v : ℕ → Bool) → holds v net b ≡ (holds v net left && holds v net right)
+
+-- the value of a conjunction of two bits, of which some values are known
+pub record IsConjoined (left right : Option Bool) (r : Bool) : Type 0 where
+  pub is : (x y : Bool) → IfSome left (λ l. x ≡ l) → IfSome right (λ k. y ≡ k) → (x && y) ≡ r
 
 -- a bit is true exactly where one of two is
 pub record IsEither (net : List NetNode) (left right b : Bit) : Type 0 where

@@ -3,8 +3,8 @@ ghost use Rattle.std.specs.Prelude.{◌≡◌, ℕ, ◌≤◌, ◌<◌, IfOk, If
 ghost use Rattle.circuits.specs.declared.net.Bit.{Bit};
 ghost use Rattle.circuits.specs.declared.net.NetNode.{NetNode};
 ghost use Rattle.circuits.specs.Net.{IsIn, IsNet};
-ghost use Rattle.circuits.specs.Words.{AreTrue, AreZeros, IsOver, bits_of};
-ghost use Rattle.circuits.specs.Facts.{AllFollow, AreFacts, AreParted, IsAnswer, IsBoth, IsEither, IsTruthFact, IsZeroWhere};
+ghost use Rattle.circuits.specs.Words.{AreTrue, AreZeros, bits_of};
+ghost use Rattle.circuits.specs.Facts.{AllFollow, AreFacts, AreParted, IsAnswer, IsBoth, IsConjoined, IsEither, IsTruthFact, IsZeroWhere};
 
 use crate::hints::Hints;
 use crate::words::Words;
@@ -91,6 +91,40 @@ fn value_among(known: &[Bit], bit: Bit) -> Option<bool>
     None
 }
 
+// the value of a conjunction, from what is known of the values of both
+fn conjoined(left: Option<bool>, right: Option<bool>) -> Option<bool>
+    ensures { IfSome result (λ r. IsConjoined left right r) }
+{
+    match (left, right) {
+        (Some(false), _) => Some(false),
+        (_, Some(false)) => Some(false),
+        (Some(true), Some(true)) => Some(true),
+        _ => None,
+    }
+}
+
+// the value that a bit has by what is conjoined in it, or in its opposite
+fn value_by_parts(nodes: &[NetNode], known: &[Bit], depth: u32, bit: Bit) -> Option<bool>
+    requires { IsNet nodes.now }
+    ensures { IfSome result (λ r. (here : Bit) → AllFollow nodes.now here known.now → IsAnswer nodes.now here bit r) }
+{
+    if let Some(value) = value_among(known, bit) {
+        return Some(value);
+    }
+    if depth == 0 {
+        return None;
+    }
+    let plain = Bit {
+        node: bit.node,
+        negated: false,
+    };
+    let pair = arguments(nodes, plain)?;
+    let left = value_by_parts(nodes, known, depth - 1, pair.left);
+    let right = value_by_parts(nodes, known, depth - 1, pair.right);
+    let value = conjoined(left, right)?;
+    Some(value != bit.negated)
+}
+
 fn has_number(numbers: &[u32], number: u32) -> bool {
     for other in numbers {
         if *other == number {
@@ -152,23 +186,25 @@ fn truth_fact(
 // the facts, and what is known of the truths in them and in a question
 fn with_truths(
     alloc: Global,
+    nodes: &[NetNode],
     words: &Words,
     known: &[Bit],
     width: u32,
     question: &Polynomial,
     facts: Vec<Polynomial>,
 ) -> Result<Vec<Polynomial>, OutOfMemory>
-    requires { width ≤ 64 }
-    ensures { IfOk result (λ r. (net : List NetNode) (here : Bit) → AllFollow net here known.now
-        → AreFacts net (bits_of words.now.list.items) here width facts.items
-        → AreFacts net (bits_of words.now.list.items) here width r.items) }
+    requires net { IsNet nodes.now }
+    requires narrow { width ≤ 64 }
+    ensures { IfOk result (λ r. (here : Bit) → AllFollow nodes.now here known.now
+        → AreFacts nodes.now (bits_of words.now.list.items) here width facts.items
+        → AreFacts nodes.now (bits_of words.now.list.items) here width r.items) }
 {
     let truths = truths_in(alloc, question, &facts)?;
     let mut all = facts;
     for at in 0..truths.len() {
         let truth = truths[at];
         if let Some(bit) = words.digit(truth) {
-            if let Some(value) = value_among(known, bit) {
+            if let Some(value) = value_by_parts(nodes, known, DEPTH, bit) {
                 if let Some(fact) = truth_fact(alloc, width, truth, value)? {
                     all.push(fact)?;
                 }
@@ -205,19 +241,21 @@ fn facts_of(
 // whether a polynomial is 0 modulo 2^width wherever these bits are true
 fn is_zero(
     alloc: Global,
+    nodes: &[NetNode],
     hints: &Hints,
     known: &[Bit],
     width: u32,
     question: &Polynomial,
     questions: &mut u32,
 ) -> Result<Option<bool>, OutOfMemory>
-    requires { width ≤ 64 }
-    ensures { IfOk result (λ r. IfSome r (λ is. (net : List NetNode) (here : Bit) → AreTrue net hints.now
-        → AllFollow net here known.now → IsOver (bits_of hints.now.words.list.items) question.now
-        → IsZeroWhere net (bits_of hints.now.words.list.items) here width question.now is)) }
+    requires net { IsNet nodes.now }
+    requires hints { AreTrue nodes.now hints.now }
+    requires narrow { width ≤ 64 }
+    ensures { IfOk result (λ r. IfSome r (λ is. (here : Bit) → AllFollow nodes.now here known.now
+        → IsZeroWhere nodes.now (bits_of hints.now.words.list.items) here width question.now is)) }
 {
     let facts = facts_of(alloc, &hints.zeros, known, width)?;
-    let all = with_truths(alloc, &hints.words, known, width, question, facts)?;
+    let all = with_truths(alloc, nodes, &hints.words, known, width, question, facts)?;
     if all.is_empty() || *questions == 0 {
         return Ok(None);
     }
@@ -232,21 +270,32 @@ fn is_zero(
 // the value of a bit that tells where words are equal
 fn value_of_test(
     alloc: Global,
+    nodes: &[NetNode],
     hints: &Hints,
     known: &[Bit],
     at: usize,
     bit: Bit,
     questions: &mut u32,
 ) -> Result<Option<bool>, OutOfMemory>
-    requires { at < length hints.now.zeros.list.items }
-    ensures { IfOk result (λ r. IfSome r (λ value. (net : List NetNode) (here : Bit) → AreTrue net hints.now
-        → AllFollow net here known.now → IsAnswer net here bit value)) }
+    requires net { IsNet nodes.now }
+    requires hints { AreTrue nodes.now hints.now }
+    requires inside { at < length hints.now.zeros.list.items }
+    ensures { IfOk result (λ r. IfSome r (λ value. (here : Bit) → AllFollow nodes.now here known.now
+        → IsAnswer nodes.now here bit value)) }
 {
     let zero = &hints.zeros.list[at];
     if zero.width > 64 || zero.bit.node != bit.node {
         return Ok(None);
     }
-    let is = is_zero(alloc, hints, known, zero.width, &zero.polynomial, questions)?;
+    let is = is_zero(
+        alloc,
+        nodes,
+        hints,
+        known,
+        zero.width,
+        &zero.polynomial,
+        questions,
+    )?;
     match is {
         Some(is) => Ok(Some(is == (zero.bit.negated == bit.negated))),
         None => Ok(None),
@@ -272,7 +321,7 @@ fn value_where(
         return Ok(Some(value));
     }
     if let Some(at) = hints.zeros.of_node(bit.node) {
-        return value_of_test(alloc, hints, known, at, bit, questions);
+        return value_of_test(alloc, nodes, hints, known, at, bit, questions);
     }
     let plain = Bit {
         node: bit.node,
@@ -285,17 +334,11 @@ fn value_where(
         return Ok(None);
     }
     let left = value_where(alloc, nodes, hints, known, depth - 1, pair.left, questions)?;
-    if left == Some(false) {
-        return Ok(Some(bit.negated));
-    }
     let right = value_where(alloc, nodes, hints, known, depth - 1, pair.right, questions)?;
-    if right == Some(false) {
-        return Ok(Some(bit.negated));
+    match conjoined(left, right) {
+        Some(value) => Ok(Some(value != bit.negated)),
+        None => Ok(None),
     }
-    if left == Some(true) && right == Some(true) {
-        return Ok(Some(!bit.negated));
-    }
-    Ok(None)
 }
 
 /// The value that a bit has wherever another is true, where it is found. `questions` is how often facts may still be
