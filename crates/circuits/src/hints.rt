@@ -35,13 +35,16 @@ fn times(alloc: Global, width: u32, p: &Polynomial, q: &Polynomial) -> Option<Po
 // whether a choice is one word of the two in any case, or takes a value that was drawn: this is then an unknown as good as
 // any, where a polynomial would carry the old value and the test along
 fn is_better_alone(nodes: &[NetNode], test: Bit, yes: &[Bit]) -> bool {
-    if test.node == 0 {
-        return true;
+    test.node == 0 || are_inputs(nodes, yes)
+}
+
+fn are_inputs(nodes: &[NetNode], bits: &[Bit]) -> bool {
+    for bit in bits {
+        if !is_input(nodes, *bit) {
+            return false;
+        }
     }
-    match yes.first() {
-        Some(lowest) => is_input(nodes, *lowest),
-        None => true,
-    }
+    true
 }
 
 fn is_input(nodes: &[NetNode], bit: Bit) -> bool {
