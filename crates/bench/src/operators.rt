@@ -1,5 +1,6 @@
 // Builds the circuit of the operator and the type that its words name, and prints how large it is, or the net itself
 // in BLIF: what bench/circuits counts, times and hands to ABC.
+ghost use Rattle.std.specs.Prelude.{◌<◌, ◌^◌, OnOk, length};
 ghost use Rattle.c_core.specs.Types.{IsPromoted};
 
 use c_core::{BinOp, DataModel, IntType};
@@ -18,6 +19,17 @@ struct Circuit {
     out: Outcome,
 }
 
+// so it is in every net that `build` makes
+fn has_room(net: &Net) -> Result<(), OutOfMemory>
+    ensures { OnOk result (length net.now < 2 ^ 28) }
+{
+    if net.nodes() < 1 << 28 {
+        Ok(())
+    } else {
+        Err(OutOfMemory)
+    }
+}
+
 /// An operator on two numbers whose digits are inputs, converted as C does before it computes.
 #[tactic(auto, using(circuits::proofs::Feeding::typed_fed, circuits::proofs::Feeding::typed_later))]
 fn build(alloc: Global, op: BinOp, ty: IntType, wide: IntType) -> Result<Circuit, OutOfMemory>
@@ -27,7 +39,9 @@ fn build(alloc: Global, op: BinOp, ty: IntType, wide: IntType) -> Result<Circuit
     let a = input_bits(alloc, &mut net, LP64, ty)?;
     let b = input_bits(alloc, &mut net, LP64, ty)?;
     let x = convert_bits(alloc, &mut net, LP64, ty, wide, &a)?;
+    has_room(&net)?;
     let y = convert_bits(alloc, &mut net, LP64, ty, wide, &b)?;
+    has_room(&net)?;
     let out = apply_bits(alloc, &mut net, LP64, op, wide, &x, wide, &y)?;
     Ok(Circuit { net, out })
 }

@@ -1,0 +1,9 @@
+use Rattle.circuits.proofs.Feeding.{typed_later}
+use Rattle.bench.proofs.operators.build.Goals as goal
+
+pub convert_bits-requires-2-clause-a_in : goal.convert_bits-requires-2-clause-a_in
+convert_bits-requires-2-clause-a_in c =
+    typed_later c.in_ok-x.ensures.grown (record { inside = c.in_ok-b.ensures.value.inside; wide = c.in_ok-b.ensures.value.wide })
+
+pub apply_bits-requires-clause-a_in : goal.apply_bits-requires-clause-a_in
+apply_bits-requires-clause-a_in c = typed_later c.in_ok-y.ensures.grown c.in_ok-x.ensures.value.bits_in
