@@ -82,8 +82,12 @@ pub fn choose_bits(
 {
     let x = yes.bits.as_slice();
     let y = no.bits.as_slice();
+    // a value that was drawn just now is an unknown as good as any, also where it is chosen
+    let drawn = net.ends_with(x);
     let out = choose(alloc, net, test, x, y)?;
-    net.note_choice(alloc, test, x, y, &out);
+    if !drawn {
+        net.note_choice(alloc, test, x, y, &out);
+    }
     let bits = Seq::from_vec(out);
     Ok(Bits { bits })
 }

@@ -32,28 +32,6 @@ fn times(alloc: Global, width: u32, p: &Polynomial, q: &Polynomial) -> Option<Po
     }
 }
 
-// whether a choice is one word of the two in any case, or takes a value that was drawn: this is then an unknown as good as
-// any, where a polynomial would carry the old value and the test along
-fn is_better_alone(nodes: &[NetNode], test: Bit, yes: &[Bit]) -> bool {
-    test.node == 0 || are_inputs(nodes, yes)
-}
-
-fn are_inputs(nodes: &[NetNode], bits: &[Bit]) -> bool {
-    for bit in bits {
-        if !is_input(nodes, *bit) {
-            return false;
-        }
-    }
-    true
-}
-
-fn is_input(nodes: &[NetNode], bit: Bit) -> bool {
-    match nodes.get(bit.node as usize) {
-        Some(NetNode::Input(_)) => true,
-        _ => false,
-    }
-}
-
 impl Hints {
     /// Nothing is known.
     pub fn new(alloc: Global) -> Hints
@@ -245,7 +223,8 @@ impl Hints {
             ≡ cond (holds v nodes.now test) (number v nodes.now yes.now) (number v nodes.now no.now) }
         ensures hints { AreTrue nodes.now self.new }
     {
-        if is_better_alone(nodes, test, yes) {
+        // (the result is one of the two words)
+        if test.node == 0 {
             return;
         }
         if let Some(chosen) = self.chosen(alloc, nodes, test, yes, no) {

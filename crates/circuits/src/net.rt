@@ -202,6 +202,24 @@ impl Net {
         Ok(Bit { node, negated })
     }
 
+    /// Whether the last nodes are inputs, and these bits.
+    pub fn ends_with(&self, bits: &[Bit]) -> bool {
+        let first = self.nodes.len().saturating_sub(bits.len());
+        for at in 0..bits.len() {
+            if bits[at].node as usize != first.saturating_add(at) || !self.is_input(bits[at]) {
+                return false;
+            }
+        }
+        true
+    }
+
+    fn is_input(&self, bit: Bit) -> bool {
+        match self.nodes.get(bit.node as usize) {
+            Some(NetNode::Input(_)) => !bit.negated,
+            _ => false,
+        }
+    }
+
     /// Keeps in mind that bits are a + coefficient * b: sums where it is 1, differences where it is 2^64 - 1.
     pub fn note_combined(
         &mut self,

@@ -1,8 +1,9 @@
-use Rattle.std.proofs.Common.{◌∙◌, ap, arith, length}
+use Rattle.std.proofs.Common.{◌≡◌, ◌∙◌, ap, arith, length}
 use Rattle.circuits.proofs.Nets.{wider, in_later, grown_until}
 use Rattle.circuits.proofs.Carrying.{counts_same}
 use Rattle.circuits.proofs.Noted.{chosen_operands, choice_noted, chosen_later}
 use Rattle.circuits.proofs.bits.choose_bits.Goals as goal
+use Rattle.circuits.proofs.bits.choose_bits.Goals.{then-not-drawn, else-not-drawn}
 
 pub note_choice-requires-clause-test_in : goal.note_choice-requires-clause-test_in
 note_choice-requires-clause-test_in c = in_later c.args.test c.in_ok-out.ensures.grown c.requires.test_in
@@ -25,8 +26,15 @@ note_choice-requires-clause-is c =
 pub returns-in_err-out-clause-grown : goal.returns-in_err-out-clause-grown
 returns-in_err-out-clause-grown c = wider c.in_err-out.ensures.grown (omega (arith, ap length c.as_slice-x.ensures))
 
+-- a note adds no node
+net_same : (c : goal.After-from_vec-bits) → c.if-not-drawn.net ≡ c.choose.new.net
+net_same c = elim c.if-not-drawn.branch [
+  | then-not-drawn w ↦ w.net-is ∙ w.note_choice.ensures
+  | else-not-drawn w ↦ w.net-is
+]
+
 pub returns-clause-grown : goal.returns-clause-grown
-returns-clause-grown c = grown_until c.note_choice.ensures (wider c.in_ok-out.ensures.grown (omega (arith, ap length c.as_slice-x.ensures)))
+returns-clause-grown c = grown_until (net_same c) (wider c.in_ok-out.ensures.grown (omega (arith, ap length c.as_slice-x.ensures)))
 
 pub returns-clause-value : goal.returns-clause-value
-returns-clause-value c = chosen_later _ _ c.note_choice.ensures c.from_vec-bits.ensures c.as_slice-x.ensures c.as_slice-y.ensures c.in_ok-out.ensures.value
+returns-clause-value c = chosen_later _ _ (net_same c) c.from_vec-bits.ensures c.as_slice-x.ensures c.as_slice-y.ensures c.in_ok-out.ensures.value
