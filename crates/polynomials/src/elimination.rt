@@ -8,7 +8,7 @@ use std::alloc::Global;
 use wv_base::OutOfMemory;
 
 /// So many facts are looked at.
-pub const MOST_FACTS: usize = 32;
+pub const MOST_FACTS: usize = 48;
 
 // so often each fact that gives no unknown divides the question
 const ROUNDS: usize = 3;
