@@ -1,9 +1,9 @@
 -- What follows wherever a bit is true, and how it is found.
 use Rattle.std.proofs.Common.{◌≡◌, ℕ, ◌+◌, ◌*◌, ◌%◌, ◌^◌, ◌<◌, ◌≤◌, nat_eq, Bool, true, false, not, ◌&&◌, ◌||◌, Option, Some, None, List, [], ◌∷◌, ◌++◌, length, get_or, slice_get, refl, sym, ◌∙◌, ap, subst, arith}
 use Rattle.std.specs.Option.{IfSome}
-use Rattle.std.proofs.lemmas.List.Elements.{All-push, All-nil, All-get_or, All-weaker}
+use Rattle.std.proofs.lemmas.List.Elements.{All-push, All-nil, All-head, All-get_or, All-weaker}
 use Rattle.std.proofs.lemmas.Bool.Decides.{nat_tests}
-use Rattle.std.proofs.lemmas.Option.{IfSome_then}
+use Rattle.std.proofs.lemmas.Option.{IfSome_then, get_or_from_slice_get, slice_get_within}
 use Rattle.std.proofs.Math.Bool.{beq}
 use Rattle.polynomials.specs.Values.{AreBelow, Same, factor, value}
 use Rattle.polynomials.specs.Calls.{IsWithTerm, IsConstant}
@@ -16,9 +16,9 @@ use Rattle.circuits.specs.declared.net.NetNode.TheVariants.{Constant, And}
 use Rattle.circuits.specs.declared.words.Word.{Word}
 use Rattle.circuits.specs.declared.zeros.Zero.{Zero}
 use Rattle.circuits.specs.Net.{holds, opposite, IsIn, IsNet, Means}
-use Rattle.circuits.specs.Numbers.{digit}
-use Rattle.circuits.specs.Words.{unknown, bits_of, AreZeros, IsZero, IsZeroOf}
-use Rattle.circuits.specs.Facts.{AllFollow, AreFacts, AreParted, IsAnswer, IsBoth, IsConjoined, IsDigit, IsEither, IsFact, IsTruthFact, IsZeroWhere}
+use Rattle.circuits.specs.Numbers.{digit, AreIn}
+use Rattle.circuits.specs.Words.{unknown, bits_of, AreWords, AreZeros, IsWord, IsZero, IsZeroOf}
+use Rattle.circuits.specs.Facts.{Condition, AllFollow, AreFacts, AreParted, IsAnswer, IsBoth, IsConjoined, IsDigit, IsEither, IsFact, IsLeftOut, IsRest, IsTruthFact, IsZeroWhere}
 use Rattle.circuits.proofs.Nodes.{and_arguments, means_found, found}
 use Rattle.circuits.proofs.Nets.{holds-opposite, means_by, opp}
 use Rattle.circuits.proofs.Unknowns.{factor_of, found_word, place_within, product_one, unknown_odd}
@@ -90,7 +90,7 @@ parted_either {net} {a} {b} {x} {y} {z} {w} {l} {m} {n} {o} {r} left right el em
     subst (λ k. IsEither net a b k) (sym (p.is ∙ el)) (either_of left right (sym el ∙ p.same ∙ en) (sym em ∙ p.apart ∙ ap opposite eo))
 
 -- ---- bits that follow
-pub follow_own : (net : List NetNode) (b : Bit) → IsIn net b → AllFollow net b (b ∷ [])
+pub follow_own : (net : List NetNode) (b : Bit) → IsIn net b → AllFollow net (λ v. holds v net b) (b ∷ [])
 follow_own net b h = record {
   inside = All-push (λ x. IsIn net x) [] b (All-nil (λ x. IsIn net x)) h;
   is = λ v e. All-push (λ x. holds v net x ≡ true) [] b (All-nil (λ x. holds v net x ≡ true)) e;
@@ -105,10 +105,10 @@ right_true true y h = h
 right_true false y h = cc
 
 -- what a bit that follows conjoins follows too
-pub follow_both : {net : List NetNode} {here : Bit} (bits : List Bit) (at : ℕ) (d left right : Bit) → AllFollow net here bits → at < length bits → IsBoth net (get_or bits at d) left right
+pub follow_both : {net : List NetNode} {here : Condition} (bits : List Bit) (at : ℕ) (d left right : Bit) → AllFollow net here bits → at < length bits → IsBoth net (get_or bits at d) left right
     → AllFollow net here ((bits ++ left ∷ []) ++ right ∷ [])
 follow_both {net} {here} bits at d left right f lt both =
-    let parts : (v : ℕ → Bool) → holds v net here ≡ true → (holds v net left && holds v net right) ≡ true =
+    let parts : (v : ℕ → Bool) → here v ≡ true → (holds v net left && holds v net right) ≡ true =
     λ v h. sym (both.is v) ∙ All-get_or (λ x. holds v net x ≡ true) bits at d lt (f.is v h) in
     record {
       inside = All-push (λ x. IsIn net x) (bits ++ left ∷ []) right (All-push (λ x. IsIn net x) bits left f.inside both.left_in) both.right_in;
@@ -118,6 +118,33 @@ follow_both {net} {here} bits at d left right f lt both =
           (right_true (holds v net left) (holds v net right) (parts v h));
     }
 
+-- what follows where a bit is true besides
+pub follow_assumed : {net : List NetNode} {here : Condition} (known : List Bit) (b : Bit) → IsIn net b → AllFollow net here known → AllFollow net (λ v. here v && holds v net b) (known ++ b ∷ [])
+follow_assumed {net} {here} known b h f = record {
+  inside = All-push (λ x. IsIn net x) known b f.inside h;
+  is = λ v e. All-push (λ x. holds v net x ≡ true) known b (f.is v (left_true (here v) (holds v net b) e)) (right_true (here v) (holds v net b) e);
+}
+
+pub follow_left_out : {net : List NetNode} {here : Condition} (known all : List Bit) (b r : Bit) → IsLeftOut net known b r → AllFollow net here known
+    → AllFollow net (λ v. here v && holds v net b) all → AllFollow net (λ v. here v && holds v net b) (all ++ r ∷ [])
+follow_left_out {net} {here} known all b r o f g = record {
+  inside = All-push (λ x. IsIn net x) all r g.inside o.inside;
+  is = λ v e. All-push (λ x. holds v net x ≡ true) all r (g.is v e) (o.is here f v (left_true (here v) (holds v net b) e) (right_true (here v) (holds v net b) e));
+}
+
+right_is_not : (x y b : Bool) → not b ≡ (x && y) → b ≡ true → x ≡ true → not y ≡ true
+right_is_not x y b e f g = ap (λ k. not (k && y)) (sym g) ∙ ap not (sym e) ∙ ap (λ k. not (not k)) f
+
+-- the other part of a conjunction that isn't true
+pub left_out_of : {net : List NetNode} {known : List Bit} {b whole left right r : Bit} → whole ≡ opposite b → IsBoth net whole left right → IsIn net right → r ≡ opposite right
+    → ((here : Condition) → AllFollow net here known → IsAnswer net here left true) → IsLeftOut net known b r
+left_out_of {net} {known} {b} {whole} {left} {right} {r} ew both inside er answers = record {
+  inside = subst (λ k. IsIn net k) (sym er) inside;
+  is = λ here f v h k.
+      ap (holds v net) er ∙ holds-opposite v net right
+      ∙ right_is_not (holds v net left) (holds v net right) (holds v net b) (sym (holds-opposite v net b) ∙ ap (holds v net) (sym ew) ∙ both.is v) k ((answers here f).is v h);
+}
+
 -- ---- answers
 pub at_some : {A : Type 0} (P : A → Type 0) (o : Option A) (x : A) → o ≡ Some x → IfSome o P → P x
 at_some {A} P o x e h = subst (λ (k : Option A). IfSome k P) e h
@@ -126,13 +153,13 @@ plain_sign : (t : Bool) → beq true t ≡ t
 plain_sign true = refl
 plain_sign false = refl
 
-pub answer_known : (net : List NetNode) (here : Bit) (known : List Bit) (at : ℕ) (d b : Bit) → at < length known → (get_or known at d).node ≡ b.node → AllFollow net here known
+pub answer_known : (net : List NetNode) (here : Condition) (known : List Bit) (at : ℕ) (d b : Bit) → at < length known → (get_or known at d).node ≡ b.node → AllFollow net here known
     → IsAnswer net here b (beq (get_or known at d).negated b.negated)
 answer_known net here known at d b lt n f = record {
   is = λ v h. sign_known v net (get_or known at d) b true n (All-get_or (λ x. holds v net x ≡ true) known at d lt (f.is v h)) ∙ plain_sign (beq (get_or known at d).negated b.negated);
 }
 
-pub answer_test : {net : List NetNode} {words : List (List Bit)} {here b : Bit} {is : Bool} (z : Zero) → IsZeroOf net words z.width z.polynomial z.bit → z.bit.node ≡ b.node
+pub answer_test : {net : List NetNode} {words : List (List Bit)} {here : Condition} {b : Bit} {is : Bool} (z : Zero) → IsZeroOf net words z.width z.polynomial z.bit → z.bit.node ≡ b.node
     → IsZeroWhere net words here z.width z.polynomial is → IsAnswer net here b (beq is (beq z.bit.negated b.negated))
 answer_test {net} {words} {here} {b} {is} z zero n where_here = record {
   is = λ v h. sign_known v net z.bit b is n (sym (zero.is v) ∙ where_here.is v h);
@@ -160,13 +187,13 @@ conjoined_right left = record { is = λ x y e f. right_false x y f }
 pub conjoined_true : IsConjoined (Some true) (Some true) true
 conjoined_true = record { is = λ x y e f. ap (λ k. k && y) e ∙ f }
 
-pub answers_at : (net : List NetNode) (known : List Bit) (b here : Bit) (o : Option Bool) → IfSome o (λ r. (h : Bit) → AllFollow net h known → IsAnswer net h b r) → AllFollow net here known
+pub answers_at : (net : List NetNode) (known : List Bit) (b : Bit) (here : Condition) (o : Option Bool) → IfSome o (λ r. (h : Condition) → AllFollow net h known → IsAnswer net h b r) → AllFollow net here known
     → IfSome o (λ r. IsAnswer net here b r)
 answers_at net known b here (Some r) a f = a here f
 answers_at net known b here None a f = tt
 
 -- a conjunction, or its opposite, by its parts
-pub answer_conjoined : {net : List NetNode} {here left right : Bit} {o p : Option Bool} {value : Bool} (plain b : Bit) → IsBoth net plain left right → plain.negated ≡ false → plain.node ≡ b.node
+pub answer_conjoined : {net : List NetNode} {here : Condition} {left right : Bit} {o p : Option Bool} {value : Bool} (plain b : Bit) → IsBoth net plain left right → plain.negated ≡ false → plain.node ≡ b.node
     → IfSome o (λ l. IsAnswer net here left l) → IfSome p (λ k. IsAnswer net here right k) → IsConjoined o p value → IsAnswer net here b (not (beq value b.negated))
 answer_conjoined {net} {here} {left} {right} {o} {p} {value} plain b both s n l r c = record {
   is = λ v h.
@@ -182,7 +209,7 @@ zero_of : (x : ℕ) → nat_eq x 0 ≡ true → x ≡ 0
 zero_of x e = grind (arith, nat_tests)
 
 -- a test that is true wherever a bit is
-pub fact_of_test : {net : List NetNode} {words : List (List Bit)} {here : Bit} (known : List Bit) (at width : ℕ) (d : Bit) (z : Zero) → IsZeroOf net words z.width z.polynomial z.bit
+pub fact_of_test : {net : List NetNode} {words : List (List Bit)} {here : Condition} (known : List Bit) (at width : ℕ) (d : Bit) (z : Zero) → IsZeroOf net words z.width z.polynomial z.bit
     → AllFollow net here known → at < length known → z.bit ≡ get_or known at d → z.width ≡ width → IsFact net words here width z.polynomial
 fact_of_test {net} {words} {here} known at width d z zero f lt same w = record {
   over = zero.over;
@@ -201,6 +228,13 @@ digit_of words w {b} {above} at x e f h =
       is = λ v net. ap (unknown v net (bits_of words)) h ∙ unknown_odd v net (bits_of words) b above at place;
     }
 
+-- the first digit of a word is a bit of the net
+pub digit_inside : {net : List NetNode} (words : List Word) (w : Word) {b : Bit} {above : List Bit} (at : ℕ) → slice_get words at ≡ Some w → w.bits.items ≡ b ∷ above → AreWords net words → IsIn net b
+digit_inside {net} words w {b} {above} at e f all =
+    let word : IsWord net (bits_of words) w =
+    subst (λ k. IsWord net (bits_of words) k) (get_or_from_slice_get words at w w e) (All-get_or (λ k. IsWord net (bits_of words) k) words at w (slice_get_within words at w e) all) in
+    All-head (λ k. IsIn net k) b above (subst (λ l. AreIn net l) f word.inside)
+
 pub truth_is_0 : {w x : ℕ} {p : List Term} → ((v : ℕ → ℕ) → value v p ≡ factor v x) → ((n : ℕ) → x < n → AreBelow n p) → IsTruthFact w x false p
 truth_is_0 {w} {x} {p} e h = record { within = h; is = λ v f. same_by (e v ∙ f) }
 
@@ -214,27 +248,53 @@ truth_is_1 {w} {x} {m} {old} {new} l k e h t = record {
 }
 
 -- a truth whose bit is known
-pub fact_of_truth : {net : List NetNode} {words : List (List Bit)} {here b : Bit} {w x : ℕ} {is : Bool} {p : List Term} → IsTruthFact w x is p → IsDigit words x b → IsAnswer net here b is
+pub fact_of_truth : {net : List NetNode} {words : List (List Bit)} {here : Condition} {b : Bit} {w x : ℕ} {is : Bool} {p : List Term} → IsTruthFact w x is p → IsDigit words x b → IsAnswer net here b is
     → IsFact net words here w p
 fact_of_truth {net} {words} {here} {b} {w} {x} {is} {p} f d a = record {
   over = f.within (2 * length words + 2) d.over;
   is = λ v h. f.is (unknown v net words) (factor_of (unknown v net words) x d.some ∙ d.is v net ∙ ap digit (a.is v h));
 }
 
-pub facts_pushed : {net : List NetNode} {words : List (List Bit)} {here : Bit} {w : ℕ} {p : List Term} (facts : List (List Term)) → AreFacts net words here w facts → IsFact net words here w p
+pub facts_pushed : {net : List NetNode} {words : List (List Bit)} {here : Condition} {w : ℕ} {p : List Term} (facts : List (List Term)) → AreFacts net words here w facts → IsFact net words here w p
     → AreFacts net words here w (facts ++ p ∷ [])
 facts_pushed {net} {words} {here} {w} {p} facts all f = All-push (λ x. IsFact net words here w x) facts p all f
 
--- a question that facts reduce to a number
-pub zero_where : {net : List NetNode} {words : List (List Bit)} {here : Bit} {facts : List (List Term)} {w c r : ℕ} {question rest : List Term} → w ≤ 64 → AreFacts net words here w facts
-    → IsReduced w facts question rest → IsConstant rest c → r ≡ c % 2 ^ w → IsZeroWhere net words here w question (nat_eq r 0)
-zero_where {net} {words} {here} {facts} {w} {c} {r} {question} {rest} l all reduced constant e = record {
+-- what facts leave of a question
+pub rest_where : {net : List NetNode} {words : List (List Bit)} {here : Condition} {facts : List (List Term)} {w : ℕ} {question rest : List Term} → AreFacts net words here w facts
+    → IsReduced w facts question rest → IsRest net words here w question rest
+rest_where {net} {words} {here} {facts} {w} {question} {rest} all reduced = record {
   is = λ v h.
       let f = unknown v net words in
-      let zeros = All-weaker (λ p. IsFact net words here w p) (λ p. Same w (value f p) 0) (λ p k. k.is v h) facts all in
-      let same : Same w (value f question) c = same_trans (same_sym (reduced.is f (truths v net words) zeros)) (same_narrow l (constant.is f)) in
+      same_sym (reduced.is f (truths v net words) (All-weaker (λ p. IsFact net words here w p) (λ p. Same w (value f p) 0) (λ p k. k.is v h) facts all));
+}
+
+-- a question of which a number is left
+pub zero_left : {net : List NetNode} {words : List (List Bit)} {here : Condition} {w c r : ℕ} {question rest : List Term} → w ≤ 64 → IsRest net words here w question rest
+    → IsConstant rest c → r ≡ c % 2 ^ w → IsZeroWhere net words here w question (nat_eq r 0)
+zero_left {net} {words} {here} {w} {c} {r} {question} {rest} l left constant e = record {
+  is = λ v h.
+      let f = unknown v net words in
+      let same : Same w (value f question) c = same_trans (left.is v h) (same_narrow l (constant.is f)) in
       ap (λ k. nat_eq k 0) (same.is ∙ sym e);
 }
+
+pub same_answer : (x y : Bool) → beq x y ≡ true → x ≡ y
+same_answer true true e = refl
+same_answer false false e = refl
+same_answer true false e = sym e
+same_answer false true e = e
+
+zero_in_case : {net : List NetNode} {words : List (List Bit)} (here : Condition) {w : ℕ} {question : List Term} {is other : Bool} (b c : Bit) (v : ℕ → Bool) (k : Bool) → here v ≡ true
+    → holds v net b ≡ k → c ≡ opposite b → other ≡ is → IsZeroWhere net words (λ v. here v && holds v net b) w question is
+    → IsZeroWhere net words (λ v. here v && holds v net c) w question other → nat_eq (value (unknown v net words) question % 2 ^ w) 0 ≡ is
+zero_in_case {net} {words} here b c v true h g e f first second = first.is v (ap (λ x. x && holds v net b) h ∙ g)
+zero_in_case {net} {words} here b c v false h g e f first second =
+    second.is v (ap (λ x. x && holds v net c) h ∙ ap (holds v net) e ∙ holds-opposite v net b ∙ ap not g) ∙ f
+
+-- a question that has one answer in both cases of a bit
+pub zero_by_cases : {net : List NetNode} {words : List (List Bit)} {here : Condition} {w : ℕ} {question : List Term} {is other : Bool} (b c : Bit) → c ≡ opposite b → other ≡ is
+    → IsZeroWhere net words (λ v. here v && holds v net b) w question is → IsZeroWhere net words (λ v. here v && holds v net c) w question other → IsZeroWhere net words here w question is
+zero_by_cases {net} {words} {here} b c e f first second = record { is = λ v h. zero_in_case here b c v (holds v net b) h refl e f first second }
 
 -- ---- conjunctions under a bit
 and_here : (x y : Bool) → (x ≡ true → y ≡ true) → x ≡ (x && y)
@@ -245,10 +305,10 @@ and_nowhere : (x y : Bool) → (x ≡ true → y ≡ false) → false ≡ (x && 
 and_nowhere true y f = sym (f refl)
 and_nowhere false y f = refl
 
-pub under_true : {net : List NetNode} (here b : Bit) → IsIn net here → IsAnswer net here b true → Means net here (λ v. holds v net here && holds v net b)
+pub under_true : {net : List NetNode} (here b : Bit) → IsIn net here → IsAnswer net (λ v. holds v net here) b true → Means net here (λ v. holds v net here && holds v net b)
 under_true {net} here b h a = record { inside = h; is = λ v. and_here (holds v net here) (holds v net b) (a.is v) }
 
-pub under_false : {net : List NetNode} {never : Bit} (here b : Bit) → Means net never (λ v. false) → IsAnswer net here b false → Means net never (λ v. holds v net here && holds v net b)
+pub under_false : {net : List NetNode} {never : Bit} (here b : Bit) → Means net never (λ v. false) → IsAnswer net (λ v. holds v net here) b false → Means net never (λ v. holds v net here && holds v net b)
 under_false {net} {never} here b m a = record { inside = m.inside; is = λ v. m.is v ∙ and_nowhere (holds v net here) (holds v net b) (a.is v) }
 
 neither_not : (x y : Bool) → not (not x && not y) ≡ (x || y)

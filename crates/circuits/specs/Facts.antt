@@ -1,4 +1,4 @@
--- What follows wherever a bit of a net is true.
+-- What follows wherever inputs meet a condition: that a bit of a net is true, mostly.
 use Rattle.std.specs.Prelude.{◌≡◌, ℕ, ◌+◌, ◌*◌, ◌%◌, ◌^◌, ◌<◌, Bool, true, ◌&&◌, ◌||◌, nat_eq, List, length, Option, IfSome}
 use Rattle.std.specs.List.{All}
 use Rattle.polynomials.specs.Values.{AreBelow, Same, factor, value}
@@ -9,26 +9,30 @@ use Rattle.circuits.specs.Net.{holds, opposite, IsIn}
 use Rattle.circuits.specs.Numbers.{digit, AreIn}
 use Rattle.circuits.specs.Words.{IsOver, unknown}
 
--- bits that are true wherever one is
-pub record AllFollow (net : List NetNode) (here : Bit) (bits : List Bit) : Type 0 where
+-- what inputs may meet
+abbrev pub Condition : Type 0
+Condition = (ℕ → Bool) → Bool
+
+-- bits that are true wherever a condition is met
+pub record AllFollow (net : List NetNode) (here : Condition) (bits : List Bit) : Type 0 where
   pub inside : AreIn net bits
-  pub is : (v : ℕ → Bool) → holds v net here ≡ true → All (λ b. holds v net b ≡ true) bits
+  pub is : (v : ℕ → Bool) → here v ≡ true → All (λ b. holds v net b ≡ true) bits
 
--- the value of a bit wherever another is true
-pub record IsAnswer (net : List NetNode) (here b : Bit) (value : Bool) : Type 0 where
-  pub is : (v : ℕ → Bool) → holds v net here ≡ true → holds v net b ≡ value
+-- the value of a bit wherever a condition is met
+pub record IsAnswer (net : List NetNode) (here : Condition) (b : Bit) (value : Bool) : Type 0 where
+  pub is : (v : ℕ → Bool) → here v ≡ true → holds v net b ≡ value
 
--- a polynomial over words that is 0 modulo 2^width wherever a bit is true
-pub record IsFact (net : List NetNode) (words : List (List Bit)) (here : Bit) (width : ℕ) (terms : List Term) : Type 0 where
+-- a polynomial over words that is 0 modulo 2^width wherever a condition is met
+pub record IsFact (net : List NetNode) (words : List (List Bit)) (here : Condition) (width : ℕ) (terms : List Term) : Type 0 where
   pub over : IsOver words terms
-  pub is : (v : ℕ → Bool) → holds v net here ≡ true → Same width (value (unknown v net words) terms) 0
+  pub is : (v : ℕ → Bool) → here v ≡ true → Same width (value (unknown v net words) terms) 0
 
-abbrev pub AreFacts : List NetNode → List (List Bit) → Bit → ℕ → List (List Term) → Type 0
+abbrev pub AreFacts : List NetNode → List (List Bit) → Condition → ℕ → List (List Term) → Type 0
 AreFacts net words here width facts = All (λ f. IsFact net words here width f) facts
 
--- whether a polynomial over words is 0 modulo 2^width wherever a bit is true
-pub record IsZeroWhere (net : List NetNode) (words : List (List Bit)) (here : Bit) (width : ℕ) (terms : List Term) (value_is : Bool) : Type 0 where
-  pub is : (v : ℕ → Bool) → holds v net here ≡ true → nat_eq (value (unknown v net words) terms % 2 ^ width) 0 ≡ value_is
+-- whether a polynomial over words is 0 modulo 2^width wherever a condition is met
+pub record IsZeroWhere (net : List NetNode) (words : List (List Bit)) (here : Condition) (width : ℕ) (terms : List Term) (value_is : Bool) : Type 0 where
+  pub is : (v : ℕ → Bool) → here v ≡ true → nat_eq (value (unknown v net words) terms % 2 ^ width) 0 ≡ value_is
 
 -- a bit is the conjunction of two
 pub record IsBoth (net : List NetNode) (b left right : Bit) : Type 0 where
@@ -44,6 +48,15 @@ pub record IsConjoined (left right : Option Bool) (r : Bool) : Type 0 where
 pub record IsEither (net : List NetNode) (left right b : Bit) : Type 0 where
   pub inside : IsIn net b
   pub is : (v : ℕ → Bool) → holds v net b ≡ (holds v net left || holds v net right)
+
+-- a bit that is true wherever others follow and one is true besides
+pub record IsLeftOut (net : List NetNode) (known : List Bit) (b r : Bit) : Type 0 where
+  pub inside : IsIn net r
+  pub is : (here : Condition) → AllFollow net here known → (v : ℕ → Bool) → here v ≡ true → holds v net b ≡ true → holds v net r ≡ true
+
+-- a polynomial over words is another modulo 2^width wherever a condition is met
+pub record IsRest (net : List NetNode) (words : List (List Bit)) (here : Condition) (width : ℕ) (terms rest : List Term) : Type 0 where
+  pub is : (v : ℕ → Bool) → here v ≡ true → Same width (value (unknown v net words) terms) (value (unknown v net words) rest)
 
 -- two pairs with one bit in common, and others that are opposite
 pub record AreParted (x y z w common : Bit) : Type 0 where

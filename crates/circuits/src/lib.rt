@@ -2,6 +2,7 @@
 //! gives the operator's value, overflow and undefined bits, within a stated number of and-nodes.
 #![tactic(auto)]
 
+mod answers;
 mod binary;
 mod bits;
 mod comparisons;
@@ -13,6 +14,7 @@ mod inputs;
 mod lists;
 mod logic;
 mod net;
+mod parts;
 mod products;
 mod quotients;
 mod shared;

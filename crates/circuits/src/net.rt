@@ -6,8 +6,9 @@ ghost use Rattle.circuits.specs.Numbers.{number, AreIn};
 ghost use Rattle.circuits.specs.Words.{AreOperands};
 ghost use Rattle.circuits.specs.Net.{holds, opposite, Grown, Means, IsIn, IsNet, IsFolded, Folds, Stands, bit_in, node_in, values_of, count_ands, count_inputs};
 
-use crate::facts::{answer, parted};
+use crate::answers::answer;
 use crate::hints::Hints;
+use crate::parts::parted;
 use crate::shared::Shared;
 use std::alloc::Global;
 use std::marker::Model;
@@ -307,14 +308,7 @@ impl Net {
         ensures refused { IfErr result (λ e. self.new ≡ self.old) }
     {
         let mut questions = self.questions;
-        let known = answer(
-            self.hints.alloc,
-            &self.nodes,
-            &self.hints,
-            live,
-            bit,
-            &mut questions,
-        );
+        let known = answer(&self.nodes, &self.hints, live, bit, &mut questions);
         self.questions = questions;
         match known {
             Ok(Some(true)) => Ok(live),

@@ -214,7 +214,8 @@ impl Words {
 
     /// The bit that an odd unknown stands for.
     pub fn digit(&self, truth: u32) -> Option<Bit>
-        ensures { IfSome result (λ b. IsDigit (bits_of self.now.list.items) truth b) }
+        ensures is { IfSome result (λ b. IsDigit (bits_of self.now.list.items) truth b) }
+        ensures inside { IfSome result (λ b. (net : List NetNode) → AreWords net self.now.list.items → IsIn net b) }
     {
         if truth < 3 || truth % 2 == 0 {
             return None;

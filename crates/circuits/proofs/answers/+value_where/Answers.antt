@@ -1,6 +1,6 @@
 use Rattle.std.proofs.Common.{false, refl}
 use Rattle.circuits.proofs.FactLaws.{answer_conjoined, answers_at}
-use Rattle.circuits.proofs.facts.+value_where.Goals as goal
+use Rattle.circuits.proofs.answers.+value_where.Goals as goal
 
 pub returns-in-Some-conjoined : goal.returns-in-Some-conjoined
 returns-in-Some-conjoined t c = λ here f.

@@ -1,9 +1,9 @@
 use Rattle.circuits.specs.declared.net.Bit.{Bit}
 use Rattle.circuits.specs.Words.{bits_of}
-use Rattle.circuits.specs.Facts.{AllFollow, AreFacts}
+use Rattle.circuits.specs.Facts.{Condition, AllFollow, AreFacts}
 use Rattle.circuits.proofs.facts.with_truths.Given as goal
 
 abbrev pub invariant-loop-at : goal.invariant-loop-at
 invariant-loop-at l =
-    (here : Bit) → AllFollow l.nodes here l.known → AreFacts l.nodes (bits_of l.words.list.items) here l.width l.fn.facts.items
+    (here : Condition) → AllFollow l.nodes here l.known → AreFacts l.nodes (bits_of l.words.list.items) here l.width l.fn.facts.items
     → AreFacts l.nodes (bits_of l.words.list.items) here l.width l.all.items

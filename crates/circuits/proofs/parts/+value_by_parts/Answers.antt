@@ -1,6 +1,6 @@
 use Rattle.std.proofs.Common.{false, refl}
 use Rattle.circuits.proofs.FactLaws.{answer_conjoined, answers_at}
-use Rattle.circuits.proofs.facts.+value_by_parts.Goals as goal
+use Rattle.circuits.proofs.parts.+value_by_parts.Goals as goal
 
 pub returns : goal.returns
 returns t c = λ here f.

@@ -1,7 +1,7 @@
 use Rattle.std.proofs.Common.{refl, sym, ◌∙◌, ap, Some}
 use Rattle.std.proofs.lemmas.Option.{slice_get_read}
 use Rattle.circuits.proofs.FactLaws.{both_found}
-use Rattle.circuits.proofs.facts.arguments.Goals as goal
+use Rattle.circuits.proofs.parts.arguments.Goals as goal
 
 pub returns-in-Some-And : goal.returns-in-Some-And
 returns-in-Some-And c =

@@ -1,7 +1,7 @@
 use Rattle.std.proofs.Common.{refl}
 use Rattle.std.proofs.lemmas.Option.{IfSome_then}
 use Rattle.circuits.proofs.FactLaws.{both_swapped, parted_either}
-use Rattle.circuits.proofs.facts.parted.Goals as goal
+use Rattle.circuits.proofs.parts.parted.Goals as goal
 
 pub returns-in-Some : goal.returns-in-Some
 returns-in-Some c = parted_either c.in_ok-x.ensures c.in_ok-y.ensures refl refl refl refl c.in-Some.ensures

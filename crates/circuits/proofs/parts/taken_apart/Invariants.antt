@@ -1,5 +1,5 @@
-use Rattle.circuits.specs.Facts.{AllFollow}
-use Rattle.circuits.proofs.facts.taken_apart.Given as goal
+use Rattle.circuits.specs.Facts.{Condition, AllFollow}
+use Rattle.circuits.proofs.parts.taken_apart.Given as goal
 
-abbrev pub invariant-loop-at : goal.invariant-loop-at
-invariant-loop-at l = AllFollow l.nodes l.fn.bit l.known.items
+abbrev pub invariant-loop-step : goal.invariant-loop-step
+invariant-loop-step l = (here : Condition) → AllFollow l.nodes here l.fn.known.items → AllFollow l.nodes here l.all.items

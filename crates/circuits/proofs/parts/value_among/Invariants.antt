@@ -1,4 +1,4 @@
-use Rattle.circuits.proofs.facts.value_among.Given as goal
+use Rattle.circuits.proofs.parts.value_among.Given as goal
 
 abbrev pub invariant-loop-other : goal.invariant-loop-other
 invariant-loop-other l = Unit {0}
