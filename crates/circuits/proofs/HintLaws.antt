@@ -1,8 +1,8 @@
 -- What sums, products and choices of polynomials over words tell.
-use Rattle.std.proofs.Common.{◌≡◌, ℕ, ◌+◌, ◌*◌, ◌%◌, ◌^◌, ◌<◌, ◌≤◌, nat_eq, cond, Bool, true, false, List, [], ◌∷◌, length, not, refl, sym, ◌∙◌, ap, subst, arith}
+use Rattle.std.proofs.Common.{◌≡◌, ℕ, ◌+◌, ◌*◌, ◌%◌, ◌^◌, ◌<◌, ◌≤◌, nat_eq, nat_lt, cond, Bool, true, false, List, [], ◌∷◌, length, not, refl, sym, ◌∙◌, ap, subst, arith}
 use Rattle.std.proofs.lemmas.List.Elements.{All-nil, All-replicate}
 use Rattle.polynomials.specs.Values.{AreFactorsBelow, product_of, value}
-use Rattle.polynomials.specs.Calls.{IsWithMultiple, Multiplies, HasSameZeros, IsConstant}
+use Rattle.polynomials.specs.Calls.{IsWithMultiple, IsWithTerm, Multiplies, HasSameZeros, IsConstant}
 use Rattle.polynomials.specs.declared.polynomial.Term.{Term}
 use Rattle.polynomials.proofs.Sameness.{same_refl, same_by, same_trans, same_add, same_mul, same_narrow}
 use Rattle.circuits.specs.declared.net.Bit.{Bit}
@@ -11,10 +11,10 @@ use Rattle.circuits.specs.declared.words.Words.{Words}
 use Rattle.circuits.specs.declared.hints.Hints.{Hints}
 use Rattle.circuits.specs.Net.{holds, IsNet, Means}
 use Rattle.circuits.specs.Numbers.{digit, number}
-use Rattle.circuits.specs.Words.{unknown, Tells, IsZeroOf, AreOperands, AreWords, AreTrue, Asks, Continues}
+use Rattle.circuits.specs.Words.{unknown, Tells, IsZeroOf, IsOrderOf, AreOperands, AreWords, AreTrue, Asks, Continues}
 use Rattle.circuits.proofs.Nets.{means_yes, opp}
 use Rattle.circuits.proofs.Counting.{number_lt}
-use Rattle.circuits.proofs.WordLaws.{truths, tells_by, zeros_after}
+use Rattle.circuits.proofs.WordLaws.{truths, tells_by, zeros_after, orders_after}
 use Rattle.circuits.proofs.Congruence.{choice, equal_where_zero, same_fewer}
 
 -- as many digits, by another name
@@ -96,7 +96,35 @@ means_constant {net} {ws} {a} {b} {q} {c} {r} n l k i e =
     λ v. ap (λ x. nat_eq x 0) (e ∙ sym (same_narrow l (i.is (unknown v net ws))).is) ∙ k.is v in
     constant_bit net (nat_eq r 0) (λ v. nat_eq (number v net a) (number v net b)) n same
 
+-- a number more
+pub tells_sum : {net : List NetNode} {ws : List (List Bit)} {w k : ℕ} {factors : List ℕ} {p r : List Term} {f : (ℕ → Bool) → ℕ}
+    → IsWithTerm w p k factors r → factors ≡ 0 ∷ 0 ∷ 0 ∷ 0 ∷ 0 ∷ 0 ∷ [] → Tells net ws w p f → Tells net ws w r (λ v. f v + k)
+tells_sum {net} {ws} {w} {k} {factors} {p} {r} {f} m e t = record {
+  over = m.within (2 * length ws + 2) t.over (rw e (none_below (2 * length ws + 2) (omega arith)));
+  is = λ v.
+      let u : ℕ → ℕ = unknown v net ws in
+      let alone : k * product_of u factors ≡ k = ap (λ l. k * product_of u l) e ∙ ap (λ n. k * n) (product_of_none u) ∙ omega arith in
+      same_trans (m.is u) (same_add (t.is v) (same_by alone));
+}
+
+-- a bit that tells which of two numbers is less
+pub order_told : {net : List NetNode} {ws : List (List Bit)} {w : ℕ} {lesser greater : List Term} {f g : (ℕ → Bool) → ℕ} {bit : Bit} → Tells net ws w lesser f → Tells net ws w greater g
+    → Means net bit (λ v. nat_lt (f v % 2 ^ w) (g v % 2 ^ w)) → IsOrderOf net ws w lesser greater bit
+order_told {net} {ws} {w} {lesser} {greater} {f} {g} {bit} l r m = record {
+  inside = m.inside;
+  lesser_over = l.over;
+  greater_over = r.over;
+  is = λ v.
+      ap (λ k. nat_lt k (value (unknown v net ws) greater % 2 ^ w)) (l.is v).is
+      ∙ ap (λ k. nat_lt (f v % 2 ^ w) k) (r.is v).is
+      ∙ sym (m.is v);
+}
+
 -- all hints, as words are added
 pub true_after : {net : List NetNode} {hints : Hints} (words : Words) → AreTrue net hints → AreWords net words.list.items
-    → Continues hints.words.list.items words.list.items → AreTrue net (record { alloc = hints.alloc; words = words; zeros = hints.zeros })
-true_after {net} {hints} words t w c = record { words = w; zeros = zeros_after hints.zeros.list.items c t.zeros }
+    → Continues hints.words.list.items words.list.items → AreTrue net (record { alloc = hints.alloc; words = words; zeros = hints.zeros; orders = hints.orders })
+true_after {net} {hints} words t w c = record {
+  words = w;
+  zeros = zeros_after hints.zeros.list.items c t.zeros;
+  orders = orders_after hints.orders.list.items c t.orders;
+}

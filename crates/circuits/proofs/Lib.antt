@@ -27,3 +27,5 @@ pub mod Congruence
 pub mod HintLaws
 pub mod Unknowns
 pub mod FactLaws
+pub mod Ordered
+pub mod OrderLaws

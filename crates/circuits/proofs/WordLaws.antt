@@ -1,5 +1,5 @@
 -- What polynomials over words tell stays true as nodes and words are added.
-use Rattle.std.proofs.Common.{◌≡◌, ℕ, zero, suc, ◌+◌, ◌*◌, ◌/◌, ◌%◌, ◌^◌, ◌<◌, ◌≤◌, nat_eq, cond, Bool, true, false, List, [], ◌∷◌, ◌++◌, length, get_or, refl, sym, ◌∙◌, ap, arith, length-append, append-nil, append_assoc}
+use Rattle.std.proofs.Common.{◌≡◌, ℕ, zero, suc, ◌+◌, ◌*◌, ◌/◌, ◌%◌, ◌^◌, ◌<◌, ◌≤◌, nat_eq, nat_lt, cond, Bool, true, false, List, [], ◌∷◌, ◌++◌, length, get_or, refl, sym, ◌∙◌, ap, arith, length-append, append-nil, append_assoc}
 use Rattle.std.specs.List.{All}
 use Rattle.std.proofs.lemmas.List.{map-append, get_or_append_left}
 use Rattle.std.proofs.lemmas.List.Elements.{All-head, All-tail, All-weaker, All-map, All-nil, All-cons}
@@ -11,10 +11,11 @@ use Rattle.circuits.specs.declared.net.Bit.{Bit}
 use Rattle.circuits.specs.declared.net.NetNode.{NetNode}
 use Rattle.circuits.specs.declared.words.Word.{Word}
 use Rattle.circuits.specs.declared.zeros.Zero.{Zero}
+use Rattle.circuits.specs.declared.orders.Order.{Order}
 use Rattle.circuits.specs.declared.hints.Hints.{Hints}
 use Rattle.circuits.specs.Net.{holds, IsIn}
 use Rattle.circuits.specs.Numbers.{digit, number, AreIn}
-use Rattle.circuits.specs.Words.{lowest, unknown, bits_of, IsOver, Tells, IsWord, IsZero, AreWords, AreZeros, AreTrue, Continues}
+use Rattle.circuits.specs.Words.{lowest, unknown, bits_of, IsOver, Tells, IsWord, IsZero, IsOrder, AreWords, AreZeros, AreOrders, AreTrue, Continues}
 use Rattle.circuits.proofs.Nets.{holds-append}
 use Rattle.circuits.proofs.Feeding.{in_more, number_more}
 
@@ -164,11 +165,42 @@ zeros_later {net} {ws} zeros more h a = All-weaker (λ z. IsZero net ws z) (λ z
 pub zeros_more : {net : List NetNode} {ws : List (List Bit)} (zeros : List Zero) (more : List (List Bit)) → AreZeros net ws zeros → AreZeros net (ws ++ more) zeros
 zeros_more {net} {ws} zeros more a = All-weaker (λ z. IsZero net ws z) (λ z. IsZero net (ws ++ more) z) (λ z i. zero_more more i) zeros a
 
+-- ---- orders
+pub order_later : {net : List NetNode} {ws : List (List Bit)} {o : Order} (more : List NetNode) → AreAllIn net ws → IsOrder net ws o → IsOrder (net ++ more) ws o
+order_later {net} {ws} {o} more h i = record {
+  inside = omega (arith, i.inside, length-append net more);
+  lesser_over = i.lesser_over;
+  greater_over = i.greater_over;
+  is = λ v.
+      ap (λ k. nat_lt (k % 2 ^ o.width) (value (unknown v (net ++ more) ws) o.greater % 2 ^ o.width)) (value_later v net more ws o.lesser h i.lesser_over)
+      ∙ ap (λ k. nat_lt (value (unknown v net ws) o.lesser % 2 ^ o.width) (k % 2 ^ o.width)) (value_later v net more ws o.greater h i.greater_over)
+      ∙ i.is v
+      ∙ sym (holds-append v net more o.bit i.inside);
+}
+
+pub order_more : {net : List NetNode} {ws : List (List Bit)} {o : Order} (more : List (List Bit)) → IsOrder net ws o → IsOrder net (ws ++ more) o
+order_more {net} {ws} {o} more i = record {
+  inside = i.inside;
+  lesser_over = over_more ws more o.lesser i.lesser_over;
+  greater_over = over_more ws more o.greater i.greater_over;
+  is = λ v.
+      ap (λ k. nat_lt (k % 2 ^ o.width) (value (unknown v net (ws ++ more)) o.greater % 2 ^ o.width)) (value_more v net ws more o.lesser i.lesser_over)
+      ∙ ap (λ k. nat_lt (value (unknown v net ws) o.lesser % 2 ^ o.width) (k % 2 ^ o.width)) (value_more v net ws more o.greater i.greater_over)
+      ∙ i.is v;
+}
+
+pub orders_later : {net : List NetNode} {ws : List (List Bit)} (orders : List Order) (more : List NetNode) → AreAllIn net ws → AreOrders net ws orders → AreOrders (net ++ more) ws orders
+orders_later {net} {ws} orders more h a = All-weaker (λ o. IsOrder net ws o) (λ o. IsOrder (net ++ more) ws o) (λ o i. order_later more h i) orders a
+
+pub orders_more : {net : List NetNode} {ws : List (List Bit)} (orders : List Order) (more : List (List Bit)) → AreOrders net ws orders → AreOrders net (ws ++ more) orders
+orders_more {net} {ws} orders more a = All-weaker (λ o. IsOrder net ws o) (λ o. IsOrder net (ws ++ more) o) (λ o i. order_more more i) orders a
+
 -- ---- all hints
 pub true_later : {net : List NetNode} {h : Hints} (more : List NetNode) → AreTrue net h → AreTrue (net ++ more) h
 true_later {net} {h} more t = record {
   words = words_later h.words.list.items more t.words;
   zeros = zeros_later h.zeros.list.items more (words_in h.words.list.items t.words) t.zeros;
+  orders = orders_later h.orders.list.items more (words_in h.words.list.items t.words) t.orders;
 }
 
 -- ---- words behind those of before
@@ -187,3 +219,6 @@ tells_after {net} {old} {new} {w} {p} {f} c t = rw (bits_continue c) (tells_more
 
 pub zeros_after : {net : List NetNode} {old new : List Word} (zeros : List Zero) → Continues old new → AreZeros net (bits_of old) zeros → AreZeros net (bits_of new) zeros
 zeros_after {net} {old} {new} zeros c a = rw (bits_continue c) (zeros_more zeros (bits_of c.more) a)
+
+pub orders_after : {net : List NetNode} {old new : List Word} (orders : List Order) → Continues old new → AreOrders net (bits_of old) orders → AreOrders net (bits_of new) orders
+orders_after {net} {old} {new} orders c a = rw (bits_continue c) (orders_more orders (bits_of c.more) a)

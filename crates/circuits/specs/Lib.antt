@@ -6,3 +6,4 @@ pub mod Gates
 pub mod Division
 pub mod Words
 pub mod Facts
+pub mod Inequalities

@@ -1,5 +1,6 @@
--- The words of a net: lists of its bits with polynomials that tell their numbers, and bits that tell where polynomials are 0.
-use Rattle.std.specs.Prelude.{◌≡◌, ℕ, ◌+◌, ◌*◌, ◌/◌, ◌%◌, ◌^◌, ◌≤◌, Bool, nat_eq, cond, List, [], ◌∷◌, ◌++◌, length, map, get_or}
+-- The words of a net: lists of its bits with polynomials that tell their numbers, and bits that tell where polynomials are 0
+-- or in order.
+use Rattle.std.specs.Prelude.{◌≡◌, ℕ, ◌+◌, ◌*◌, ◌/◌, ◌%◌, ◌^◌, ◌≤◌, Bool, nat_eq, nat_lt, cond, List, [], ◌∷◌, ◌++◌, length, map, get_or}
 use Rattle.std.specs.List.{All}
 use Rattle.polynomials.specs.Values.{AreBelow, Same, value}
 use Rattle.polynomials.specs.declared.polynomial.Term.{Term}
@@ -7,6 +8,7 @@ use Rattle.circuits.specs.declared.net.Bit.{Bit}
 use Rattle.circuits.specs.declared.net.NetNode.{NetNode}
 use Rattle.circuits.specs.declared.words.Word.{Word}
 use Rattle.circuits.specs.declared.zeros.Zero.{Zero}
+use Rattle.circuits.specs.declared.orders.Order.{Order}
 use Rattle.circuits.specs.declared.hints.Hints.{Hints}
 use Rattle.circuits.specs.Net.{holds, IsIn, IsNet, count_inputs}
 use Rattle.circuits.specs.Numbers.{digit, number, AreIn}
@@ -49,16 +51,30 @@ pub record IsZeroOf (net : List NetNode) (words : List (List Bit)) (width : ℕ)
 abbrev pub IsZero : List NetNode → List (List Bit) → Zero → Type 0
 IsZero net words z = IsZeroOf net words z.width z.polynomial z.bit
 
+-- a bit is true exactly where one polynomial over words is less than another, both modulo 2^width
+pub record IsOrderOf (net : List NetNode) (words : List (List Bit)) (width : ℕ) (lesser greater : List Term) (b : Bit) : Type 0 where
+  pub inside : IsIn net b
+  pub lesser_over : IsOver words lesser
+  pub greater_over : IsOver words greater
+  pub is : (v : ℕ → Bool) → nat_lt (value (unknown v net words) lesser % 2 ^ width) (value (unknown v net words) greater % 2 ^ width) ≡ holds v net b
+
+abbrev pub IsOrder : List NetNode → List (List Bit) → Order → Type 0
+IsOrder net words o = IsOrderOf net words o.width o.lesser o.greater o.bit
+
 abbrev pub AreWords : List NetNode → List Word → Type 0
 AreWords net words = All (λ w. IsWord net (bits_of words) w) words
 
 abbrev pub AreZeros : List NetNode → List (List Bit) → List Zero → Type 0
 AreZeros net words zeros = All (λ z. IsZero net words z) zeros
 
+abbrev pub AreOrders : List NetNode → List (List Bit) → List Order → Type 0
+AreOrders net words orders = All (λ o. IsOrder net words o) orders
+
 -- all that is kept beside the nodes of a net is true of them
 pub record AreTrue (net : List NetNode) (hints : Hints) : Type 0 where
   pub words : AreWords net hints.words.list.items
   pub zeros : AreZeros net (bits_of hints.words.list.items) hints.zeros.list.items
+  pub orders : AreOrders net (bits_of hints.words.list.items) hints.orders.list.items
 
 -- two lists of as many bits of the net, at most 64
 pub record AreOperands (net : List NetNode) (a b : List Bit) : Type 0 where

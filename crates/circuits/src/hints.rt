@@ -1,5 +1,5 @@
 // What is known of words beside the nodes of a net. Where memory or a limit stands in the way, less is known.
-ghost use Rattle.std.specs.Prelude.{◌≡◌, ℕ, Bool, ◌+◌, ◌*◌, ◌≤◌, IfSome, List, cond, length, nat_eq};
+ghost use Rattle.std.specs.Prelude.{◌≡◌, ℕ, Bool, ◌+◌, ◌*◌, ◌≤◌, IfSome, List, cond, length, nat_eq, nat_lt, ◌%◌, ◌^◌};
 ghost use Rattle.polynomials.specs.Calls.{Multiplies};
 ghost use Rattle.polynomials.specs.Values.{Same};
 ghost use Rattle.circuits.specs.declared.net.NetNode.{NetNode};
@@ -7,18 +7,20 @@ ghost use Rattle.circuits.specs.Net.{holds, IsIn, IsNet, Means};
 ghost use Rattle.circuits.specs.Numbers.{digit, number, AreIn};
 ghost use Rattle.circuits.specs.Words.{AreOperands, AreTrue, Asks, Continues, Tells, bits_of};
 
+use crate::orders::Orders;
 use crate::words::{Words, lone_digit};
 use crate::zeros::Zeros;
 use crate::{Bit, NetNode};
 use polynomials::{Polynomial, masked, multiply};
 use std::alloc::Global;
 
-/// Words with their polynomials, and bits that tell where polynomials are 0.
+/// Words with their polynomials, and bits that tell where polynomials are 0 or in order.
 #[derive(Drop)]
 pub struct Hints {
     pub alloc: Global,
     pub words: Words,
     pub zeros: Zeros,
+    pub orders: Orders,
 }
 
 // the product, where memory and the limits on polynomials allow it
@@ -41,6 +43,7 @@ impl Hints {
             alloc,
             words: Words::new(alloc),
             zeros: Zeros::new(alloc),
+            orders: Orders::new(alloc),
         }
     }
 
@@ -309,6 +312,53 @@ impl Hints {
         }
         if let Some(difference) = self.difference(alloc, nodes, a, b) {
             self.zeros.add(a.len() as u32, difference, bit);
+        }
+    }
+
+    // a polynomial that tells the number of bits + offset
+    fn moved(
+        &mut self,
+        alloc: Global,
+        nodes: &[NetNode],
+        bits: &[Bit],
+        offset: u64,
+    ) -> Option<Polynomial>
+        requires net { IsNet nodes.now }
+        requires hints { AreTrue nodes.now self.old }
+        requires bits_in { AreIn nodes.now bits.now }
+        requires wide { length bits.now ≤ 64 }
+        ensures hints { AreTrue nodes.now self.new }
+        ensures more { Continues self.old.words.list.items self.new.words.list.items }
+        ensures tells { IfSome result (λ p. Tells nodes.now (bits_of self.new.words.list.items) (length bits.now) p
+            (λ v. number v nodes.now bits.now + offset)) }
+    {
+        let mut sum = self.told(alloc, nodes, bits)?;
+        match sum.add_term(bits.len() as u32, offset, [0; 6]) {
+            Ok(true) => Some(sum),
+            _ => None,
+        }
+    }
+
+    /// A bit tells whether a + offset is less than b + offset, where the sums wrap: with the sign digit as the offset,
+    /// whether a is less than b in two's complement.
+    pub fn note_below(&mut self, nodes: &[NetNode], a: &[Bit], b: &[Bit], offset: u64, bit: Bit)
+        requires net { IsNet nodes.now }
+        requires hints { AreTrue nodes.now self.old }
+        requires operands { AreOperands nodes.now a.now b.now }
+        requires tells { Means nodes.now bit (λ v. nat_lt ((number v nodes.now a.now + offset) % 2 ^ length a.now)
+            ((number v nodes.now b.now + offset) % 2 ^ length a.now)) }
+        ensures hints { AreTrue nodes.now self.new }
+    {
+        // (the order of two digits alone is a conjunction, which facts are to look into)
+        if bit.node == 0 || (lone_digit(a).is_some() && lone_digit(b).is_some()) {
+            return;
+        }
+        let alloc = self.alloc;
+        let Some(lesser) = self.moved(alloc, nodes, a, offset) else {
+            return;
+        };
+        if let Some(greater) = self.moved(alloc, nodes, b, offset) {
+            self.orders.add(a.len() as u32, lesser, greater, bit);
         }
     }
 }

@@ -1,5 +1,5 @@
 // Nets of and-nodes.
-ghost use Rattle.std.specs.Prelude.{◌≡◌, ℕ, Bool, ◌+◌, ◌*◌, ◌<◌, ◌≤◌, ◌^◌, IfOk, IfErr, IfSome, MatchOption, true, ◌&&◌, ◌||◌, Some, cond, length, nat_eq, false, slice_get, slice_index_or, ◌++◌, ◌∷◌, []};
+ghost use Rattle.std.specs.Prelude.{◌≡◌, ℕ, Bool, ◌+◌, ◌*◌, ◌<◌, ◌≤◌, ◌^◌, IfOk, IfErr, IfSome, MatchOption, true, ◌&&◌, ◌||◌, Some, cond, length, nat_eq, nat_lt, ◌%◌, false, slice_get, slice_index_or, ◌++◌, ◌∷◌, []};
 ghost use Rattle.polynomials.specs.Values.{Same};
 ghost use Rattle.circuits.specs.declared.net.NetNode.TheVariants.{Constant, Input};
 ghost use Rattle.circuits.specs.Numbers.{number, AreIn};
@@ -296,6 +296,16 @@ impl Net {
         ensures { self.new ≡ self.old }
     {
         self.hints.note_equal(alloc, &self.nodes, a, b, bit);
+    }
+
+    /// Keeps in mind that a bit tells whether a + offset is less than b + offset, where the sums wrap.
+    pub fn note_below(&mut self, a: &[Bit], b: &[Bit], offset: u64, bit: Bit)
+        requires operands { AreOperands self.old a.now b.now }
+        requires tells { Means self.old bit (λ v. nat_lt ((number v self.old a.now + offset) % 2 ^ length a.now)
+            ((number v self.old b.now + offset) % 2 ^ length a.now)) }
+        ensures { self.new ≡ self.old }
+    {
+        self.hints.note_below(&self.nodes, a, b, offset, bit);
     }
 
     /// The conjunction of where runs are and a bit. Where that bit's value is known there, no node is added.

@@ -1,7 +1,7 @@
 // Addition, subtraction and comparisons in a type.
-ghost use Rattle.std.specs.Prelude.{◌≡◌, ℕ, ◌+◌, ◌*◌, ◌≤◌, ◌<◌, ◌^◌, IfOk, not, ◌&&◌, int_lt, length};
+ghost use Rattle.std.specs.Prelude.{◌≡◌, ℕ, ◌+◌, ◌-◌, ◌*◌, ◌≤◌, ◌<◌, ◌^◌, IfOk, cond, not, ◌&&◌, int_lt, length};
 ghost use Rattle.std.specs.Ordering.{int_eq};
-ghost use Rattle.c_core.specs.Types.{promote_of, width_of};
+ghost use Rattle.c_core.specs.Types.{is_signed, promote_of, width_of};
 ghost use Rattle.c_core.specs.Operators.{apply_of};
 ghost use Rattle.c_core.specs.declared.number.BinOp.TheVariants.{Add, Sub};
 ghost use Rattle.circuits.specs.Net.{holds, xor, Grown, Means, IsIn};
@@ -12,7 +12,7 @@ use crate::gates::{Gate, pick, xor};
 use crate::lists::{any, bitwise, difference, smaller, sum};
 use crate::signs::sign;
 use crate::{Bit, Bits, Net, Outcome, not};
-use c_core::{DataModel, IntType};
+use c_core::{DataModel, IntType, signed};
 use std::alloc::Global;
 use wv_base::{OutOfMemory, Seq};
 
@@ -140,8 +140,17 @@ pub fn subtract(
     Ok(out)
 }
 
-/// Whether a is below b.
-pub fn below(
+// what a number of a type is moved by, so that two compare as unsigned ones: the sign digit of signed types
+fn sign_digit(ty: IntType, width: usize) -> u64
+    requires some { 0 < width }
+    requires few { width ≤ 64 }
+    ensures { result ≡ cond (is_signed ty) (2 ^ (width - 1)) 0 }
+{
+    if signed(ty) { 1 << (width - 1) } else { 0 }
+}
+
+// whether a is below b, bit by bit
+fn below_in_bits(
     net: &mut Net,
     model: DataModel,
     ty: IntType,
@@ -161,6 +170,28 @@ pub fn below(
     let right = sign(net, ty, b);
     let apart = xor(net, left, right)?;
     let below = pick(net, apart, left, less)?;
+    Ok(below)
+}
+
+/// Whether a is below b.
+pub fn below(
+    net: &mut Net,
+    model: DataModel,
+    ty: IntType,
+    a: &[Bit],
+    b: &[Bit],
+) -> Result<Bit, OutOfMemory>
+    requires promoted { promote_of ty ≡ ty }
+    requires a_in { AreTyped model ty net.old a.now }
+    requires b_in { AreTyped model ty net.old b.now }
+    requires room { length net.old + 16 * width_of model ty ≤ 2 ^ 31 }
+    ensures grown { Grown (16 * width_of model ty) net.old net.new }
+    ensures value { IfOk result (λ r. Means net.new r
+        (λ v. int_lt (typed model ty v net.old a.now) (typed model ty v net.old b.now))) }
+{
+    let below = below_in_bits(net, model, ty, a, b)?;
+    let offset = sign_digit(ty, a.len());
+    net.note_below(a, b, offset, below);
     Ok(below)
 }
 

@@ -6,5 +6,6 @@ returns-in-Some c = record {
   hints = record {
     words = c.in-Some.ensures.hints.words;
     zeros = c.add.ensures _ _ c.in-Some.ensures.hints.zeros (zero_asked c.in-Some.ensures.asks c.requires.tells);
+    orders = c.in-Some.ensures.hints.orders;
   };
 }

@@ -1,0 +1,39 @@
+-- What orders that are known wherever a condition is met give.
+use Rattle.std.specs.Prelude.{◌≡◌, ℕ, ◌+◌, ◌%◌, ◌^◌, ◌<◌, Bool, true, nat_lt, List}
+use Rattle.std.specs.List.{All}
+use Rattle.polynomials.specs.Values.{AreBelow, AreTruths, Same, value}
+use Rattle.polynomials.specs.declared.polynomial.Term.{Term}
+use Rattle.circuits.specs.declared.net.Bit.{Bit}
+use Rattle.circuits.specs.declared.net.NetNode.{NetNode}
+use Rattle.circuits.specs.declared.inequalities.Known.{Known}
+use Rattle.circuits.specs.declared.inequalities.Equality.{Equality}
+use Rattle.circuits.specs.Words.{IsOver, unknown}
+use Rattle.circuits.specs.Facts.{Condition, IsFact}
+
+-- whether one polynomial over words is less than another, both modulo 2^width, wherever a condition is met
+pub record IsOrderWhere (net : List NetNode) (words : List (List Bit)) (here : Condition) (width : ℕ) (lesser greater : List Term) (value_is : Bool) : Type 0 where
+  pub lesser_over : IsOver words lesser
+  pub greater_over : IsOver words greater
+  pub is : (v : ℕ → Bool) → here v ≡ true → nat_lt (value (unknown v net words) lesser % 2 ^ width) (value (unknown v net words) greater % 2 ^ width) ≡ value_is
+
+abbrev pub IsKnown : List NetNode → List (List Bit) → Condition → Known → Type 0
+IsKnown net words here k = IsOrderWhere net words here k.width k.lesser k.greater k.is_less
+
+abbrev pub AreKnown : List NetNode → List (List Bit) → Condition → List Known → Type 0
+AreKnown net words here known = All (λ k. IsKnown net words here k) known
+
+abbrev pub AreEqualities : List NetNode → List (List Bit) → Condition → List Equality → Type 0
+AreEqualities net words here equalities = All (λ e. IsFact net words here e.width e.polynomial) equalities
+
+-- an equality that two orders give, wherever both are known
+abbrev pub Follows : Known → Known → List Term → Type 0
+Follows x y p = (net : List NetNode) (words : List (List Bit)) (here : Condition) → IsKnown net words here x → IsKnown net words here y → IsFact net words here x.width p
+
+-- p - q
+pub record IsDifference (width : ℕ) (p q new : List Term) : Type 0 where
+  pub is : (v : ℕ → ℕ) → AreTruths v → Same width (value v new + value v q) (value v p)
+  pub within : (n : ℕ) → 0 < n → AreBelow n p → AreBelow n q → AreBelow n new
+
+-- p is q and a number more
+pub record IsMoreBy (width by : ℕ) (p q : List Term) : Type 0 where
+  pub is : (v : ℕ → ℕ) → AreTruths v → Same width (value v p) (value v q + by)

@@ -1,0 +1,239 @@
+// Equalities that known orders give: of two numbers that neither is less, and of one between neighbours.
+ghost use Rattle.std.specs.Prelude.{◌≡◌, ℕ, ◌≤◌, ◌<◌, IfOk, IfSome, IsTrue, OnOk, List, length, true, false};
+ghost use Rattle.std.specs.List.{All};
+ghost use Rattle.circuits.specs.declared.net.Bit.{Bit};
+ghost use Rattle.circuits.specs.declared.net.NetNode.{NetNode};
+ghost use Rattle.circuits.specs.Words.{AreOrders};
+ghost use Rattle.circuits.specs.Facts.{AllFollow, Condition, IsAnswer};
+ghost use Rattle.circuits.specs.Inequalities.{AreEqualities, AreKnown, Follows, IsDifference, IsKnown, IsMoreBy};
+
+use crate::Bit;
+use crate::orders::Orders;
+use polynomials::{Polynomial, masked};
+use std::alloc::Global;
+use wv_base::OutOfMemory;
+
+/// Whether one polynomial is less than another, both modulo 2^width.
+#[derive(Drop)]
+struct Known {
+    width: u32,
+    lesser: Polynomial,
+    greater: Polynomial,
+    is_less: bool,
+}
+
+/// A polynomial that is 0 modulo 2^width.
+#[derive(Drop)]
+pub struct Equality {
+    pub width: u32,
+    pub polynomial: Polynomial,
+}
+
+// so many orders are held against each other
+const MOST_KNOWN: usize = 16;
+
+// so many equalities are given
+const MOST_EQUALITIES: usize = 8;
+
+// p - q, where the limit on terms allows it
+fn difference(
+    alloc: Global,
+    width: u32,
+    p: &Polynomial,
+    q: &Polynomial,
+) -> Result<Option<Polynomial>, OutOfMemory>
+    requires { width ≤ 64 }
+    ensures { IfOk result (λ r. IfSome r (λ d. IsDifference width p.now q.now d)) }
+{
+    let mut rest = p.copy(alloc)?;
+    if !rest.add_multiple(width, u64::MAX, [0; 6], q)? {
+        return Ok(None);
+    }
+    Ok(Some(rest))
+}
+
+// whether p is found to be q + by
+fn is_more_by(
+    alloc: Global,
+    width: u32,
+    by: u64,
+    p: &Polynomial,
+    q: &Polynomial,
+) -> Result<bool, OutOfMemory>
+    requires { width ≤ 64 }
+    ensures { IfOk result (λ r. IsTrue r → IsMoreBy width by p.now q.now) }
+{
+    let Some(rest) = difference(alloc, width, p, q)? else {
+        return Ok(false);
+    };
+    match rest.as_constant() {
+        Some(constant) => Ok(masked(width, constant) == by),
+        None => Ok(false),
+    }
+}
+
+// a - b, where a isn't less than b, nor b less than a
+fn neither_less(alloc: Global, x: &Known, y: &Known) -> Result<Option<Polynomial>, OutOfMemory>
+    requires narrow { x.now.width ≤ 64 }
+    requires same { y.now.width ≡ x.now.width }
+    requires first { x.now.is_less ≡ false }
+    requires second { y.now.is_less ≡ false }
+    ensures { IfOk result (λ r. IfSome r (λ p. Follows x.now y.now p)) }
+{
+    let width = x.width;
+    if !is_more_by(alloc, width, 0, &x.lesser, &y.greater)? {
+        return Ok(None);
+    }
+    if !is_more_by(alloc, width, 0, &y.lesser, &x.greater)? {
+        return Ok(None);
+    }
+    difference(alloc, width, &x.lesser, &x.greater)
+}
+
+// b - c, where a is less than b, and c, which is a + 1, isn't less than b
+fn not_above_next(alloc: Global, x: &Known, y: &Known) -> Result<Option<Polynomial>, OutOfMemory>
+    requires narrow { x.now.width ≤ 64 }
+    requires same { y.now.width ≡ x.now.width }
+    requires first { x.now.is_less ≡ true }
+    requires second { y.now.is_less ≡ false }
+    ensures { IfOk result (λ r. IfSome r (λ p. Follows x.now y.now p)) }
+{
+    let width = x.width;
+    if !is_more_by(alloc, width, 0, &x.greater, &y.greater)? {
+        return Ok(None);
+    }
+    if !is_more_by(alloc, width, 1, &y.lesser, &x.lesser)? {
+        return Ok(None);
+    }
+    difference(alloc, width, &x.greater, &y.lesser)
+}
+
+// a - c, where a is less than b, which is c + 1, and a isn't less than c
+fn not_below_last(alloc: Global, x: &Known, y: &Known) -> Result<Option<Polynomial>, OutOfMemory>
+    requires narrow { x.now.width ≤ 64 }
+    requires same { y.now.width ≡ x.now.width }
+    requires first { x.now.is_less ≡ true }
+    requires second { y.now.is_less ≡ false }
+    ensures { IfOk result (λ r. IfSome r (λ p. Follows x.now y.now p)) }
+{
+    let width = x.width;
+    if !is_more_by(alloc, width, 0, &y.lesser, &x.lesser)? {
+        return Ok(None);
+    }
+    if !is_more_by(alloc, width, 1, &x.greater, &y.greater)? {
+        return Ok(None);
+    }
+    difference(alloc, width, &x.lesser, &y.greater)
+}
+
+// the equality of a number that lies between neighbours
+fn between(alloc: Global, x: &Known, y: &Known) -> Result<Option<Polynomial>, OutOfMemory>
+    requires narrow { x.now.width ≤ 64 }
+    requires same { y.now.width ≡ x.now.width }
+    requires first { x.now.is_less ≡ true }
+    requires second { y.now.is_less ≡ false }
+    ensures { IfOk result (λ r. IfSome r (λ p. Follows x.now y.now p)) }
+{
+    if let Some(equality) = not_above_next(alloc, x, y)? {
+        return Ok(Some(equality));
+    }
+    not_below_last(alloc, x, y)
+}
+
+// the equality that two orders give
+fn equality_of(alloc: Global, x: &Known, y: &Known) -> Result<Option<Polynomial>, OutOfMemory>
+    requires narrow { x.now.width ≤ 64 }
+    requires same { y.now.width ≡ x.now.width }
+    ensures { IfOk result (λ r. IfSome r (λ p. Follows x.now y.now p)) }
+{
+    match (x.is_less, y.is_less) {
+        (false, false) => neither_less(alloc, x, y),
+        (true, false) => between(alloc, x, y),
+        (false, true) => between(alloc, y, x),
+        (true, true) => Ok(None),
+    }
+}
+
+// the order that a bit which is true tells, or whose opposite it is
+fn known_order(alloc: Global, orders: &Orders, bit: Bit) -> Result<Option<Known>, OutOfMemory>
+    ensures narrow { IfOk result (λ r. IfSome r (λ k. k.width ≤ 64)) }
+    ensures known { IfOk result (λ r. IfSome r (λ k. (net : List NetNode) (words : List (List Bit)) (here : Condition)
+        → AreOrders net words orders.now.list.items → IsAnswer net here bit true → IsKnown net words here k)) }
+{
+    let Some(at) = orders.of_node(bit.node) else {
+        return Ok(None);
+    };
+    let order = &orders.list[at];
+    if order.width > 64 || order.bit.node != bit.node {
+        return Ok(None);
+    }
+    let lesser = order.lesser.copy(alloc)?;
+    let greater = order.greater.copy(alloc)?;
+    Ok(Some(Known {
+        width: order.width,
+        lesser,
+        greater,
+        is_less: bit.negated == order.bit.negated,
+    }))
+}
+
+// the orders among these bits and their opposites
+fn known_orders(alloc: Global, orders: &Orders, known: &[Bit]) -> Result<Vec<Known>, OutOfMemory>
+    ensures narrow { IfOk result (λ r. All (λ k. k.width ≤ 64) r.items) }
+    ensures known { IfOk result (λ r. (net : List NetNode) (words : List (List Bit)) (here : Condition)
+        → AreOrders net words orders.now.list.items → AllFollow net here known.now → AreKnown net words here r.items) }
+{
+    let mut found = Vec::new(alloc);
+    for bit in known {
+        if found.len() < MOST_KNOWN {
+            if let Some(order) = known_order(alloc, orders, *bit)? {
+                found.push(order)?;
+            }
+        }
+    }
+    Ok(found)
+}
+
+// the equalities that an order gives with later ones
+fn add_equalities(
+    alloc: Global,
+    known: &[Known],
+    at: usize,
+    found: &mut Vec<Equality>,
+) -> Result<(), OutOfMemory>
+    requires inside { at < length known.now }
+    requires narrow { All (λ k. k.width ≤ 64) known.now }
+    ensures { OnOk result ((net : List NetNode) (words : List (List Bit)) (here : Condition) → AreKnown net words here known.now
+        → AreEqualities net words here found.old.items → AreEqualities net words here found.new.items) }
+{
+    let one = &known[at];
+    for later in at + 1..known.len() {
+        let other = &known[later];
+        if other.width == one.width && found.len() < MOST_EQUALITIES {
+            if let Some(polynomial) = equality_of(alloc, one, other)? {
+                let width = one.width;
+                found.push(Equality { width, polynomial })?;
+            }
+        }
+    }
+    Ok(())
+}
+
+/// The equalities that the orders among these bits, and among their opposites, give wherever the bits are true. Where
+/// a limit stands in the way there are fewer.
+pub fn equalities(
+    alloc: Global,
+    orders: &Orders,
+    known: &[Bit],
+) -> Result<Vec<Equality>, OutOfMemory>
+    ensures { IfOk result (λ r. (net : List NetNode) (words : List (List Bit)) (here : Condition)
+        → AreOrders net words orders.now.list.items → AllFollow net here known.now
+        → AreEqualities net words here r.items) }
+{
+    let all = known_orders(alloc, orders, known)?;
+    let mut found = Vec::new(alloc);
+    for at in 0..all.len() {
+        add_equalities(alloc, &all, at, &mut found)?;
+    }
+    Ok(found)
+}
