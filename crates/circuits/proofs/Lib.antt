@@ -27,3 +27,4 @@ pub mod Congruence
 pub mod HintLaws
 pub mod Unknowns
 pub mod FactLaws
+pub mod DivisionLaw

@@ -1,5 +1,5 @@
 // What is known of words beside the nodes of a net. Where memory or a limit stands in the way, less is known.
-ghost use Rattle.std.specs.Prelude.{◌≡◌, ℕ, Bool, ◌+◌, ◌*◌, ◌≤◌, IfSome, List, cond, length, nat_eq};
+ghost use Rattle.std.specs.Prelude.{◌≡◌, ℕ, Bool, true, ◌+◌, ◌*◌, ◌≤◌, IfSome, List, cond, length, nat_eq};
 ghost use Rattle.polynomials.specs.Calls.{Multiplies};
 ghost use Rattle.polynomials.specs.Values.{Same};
 ghost use Rattle.circuits.specs.declared.net.NetNode.{NetNode};
@@ -309,6 +309,96 @@ impl Hints {
         }
         if let Some(difference) = self.difference(alloc, nodes, a, b) {
             self.zeros.add(a.len() as u32, difference, bit);
+        }
+    }
+
+    // quotient * b + rest - a
+    fn left_over(
+        &mut self,
+        nodes: &[NetNode],
+        a: &[Bit],
+        b: &[Bit],
+        quotient: &[Bit],
+        rest: &[Bit],
+    ) -> Option<Polynomial>
+        requires net { IsNet nodes.now }
+        requires hints { AreTrue nodes.now self.old }
+        requires operands { AreOperands nodes.now a.now b.now }
+        requires results { AreOperands nodes.now quotient.now rest.now }
+        requires same { length quotient.now ≡ length a.now }
+        ensures hints { AreTrue nodes.now self.new }
+        ensures tells { IfSome result (λ p. Tells nodes.now (bits_of self.new.words.list.items) (length a.now) p
+            (λ v. number v nodes.now quotient.now * number v nodes.now b.now + 1 * number v nodes.now rest.now
+            + 18446744073709551615 * number v nodes.now a.now)) }
+    {
+        let width = a.len() as u32;
+        let alloc = self.alloc;
+        let mut sum = self.multiplied(alloc, nodes, quotient, b)?;
+        let part = self.told(alloc, nodes, rest)?;
+        let whole = self.told(alloc, nodes, a)?;
+        if !sum.add_multiple(width, 1, [0; 6], &part).ok()? {
+            return None;
+        }
+        if !sum.add_multiple(width, u64::MAX, [0; 6], &whole).ok()? {
+            return None;
+        }
+        Some(sum)
+    }
+
+    // the truth of a bit, times what is 0 where it is true
+    fn law(
+        &mut self,
+        nodes: &[NetNode],
+        a: &[Bit],
+        b: &[Bit],
+        quotient: &[Bit],
+        rest: &[Bit],
+        some: Bit,
+    ) -> Option<Polynomial>
+        requires net { IsNet nodes.now }
+        requires hints { AreTrue nodes.now self.old }
+        requires operands { AreOperands nodes.now a.now b.now }
+        requires results { AreOperands nodes.now quotient.now rest.now }
+        requires same { length quotient.now ≡ length a.now }
+        requires some_in { IsIn nodes.now some }
+        ensures hints { AreTrue nodes.now self.new }
+        ensures tells { IfSome result (λ p. Tells nodes.now (bits_of self.new.words.list.items) (length a.now) p
+            (λ v. digit (holds v nodes.now some) * (number v nodes.now quotient.now * number v nodes.now b.now
+            + 1 * number v nodes.now rest.now + 18446744073709551615 * number v nodes.now a.now))) }
+    {
+        let left_over = self.left_over(nodes, a, b, quotient, rest)?;
+        let truth = self.truth(self.alloc, nodes, some)?;
+        times(self.alloc, a.len() as u32, &truth, &left_over)
+    }
+
+    /// Where a bit is true, quotient * b + rest is a.
+    pub fn note_quotient(
+        &mut self,
+        nodes: &[NetNode],
+        a: &[Bit],
+        b: &[Bit],
+        quotient: &[Bit],
+        rest: &[Bit],
+        some: Bit,
+    )
+        requires net { IsNet nodes.now }
+        requires hints { AreTrue nodes.now self.old }
+        requires operands { AreOperands nodes.now a.now b.now }
+        requires results { AreOperands nodes.now quotient.now rest.now }
+        requires same { length quotient.now ≡ length a.now }
+        requires some_in { IsIn nodes.now some }
+        requires is { (v : ℕ → Bool) → holds v nodes.now some ≡ true → Same (length a.now)
+            (number v nodes.now quotient.now * number v nodes.now b.now + number v nodes.now rest.now)
+            (number v nodes.now a.now) }
+        ensures hints { AreTrue nodes.now self.new }
+    {
+        let Some(mut law) = self.law(nodes, a, b, quotient, rest, some) else {
+            return;
+        };
+        law.normalise(a.len() as u32);
+        // (a constant is 0, which says nothing)
+        if law.as_constant().is_none() {
+            self.zeros.add_law(a.len() as u32, law);
         }
     }
 }
