@@ -1,7 +1,7 @@
 -- What sums, products and choices of polynomials over words tell.
 use Rattle.std.proofs.Common.{◌≡◌, ℕ, ◌+◌, ◌*◌, ◌%◌, ◌^◌, ◌<◌, ◌≤◌, nat_eq, cond, Bool, true, false, List, [], ◌∷◌, length, not, refl, sym, ◌∙◌, ap, subst, arith}
 use Rattle.std.proofs.lemmas.List.Elements.{All-nil, All-replicate}
-use Rattle.polynomials.specs.Values.{AreFactorsBelow, product_of, value}
+use Rattle.polynomials.specs.Values.{AreFactorsBelow, Same, product_of, value}
 use Rattle.polynomials.specs.Calls.{IsWithMultiple, Multiplies, HasSameZeros, IsConstant}
 use Rattle.polynomials.specs.declared.polynomial.Term.{Term}
 use Rattle.polynomials.proofs.Sameness.{same_refl, same_by, same_trans, same_add, same_mul, same_narrow}

@@ -1,6 +1,6 @@
 // What is known of words beside the nodes of a net. Where memory or a limit stands in the way, less is known.
-ghost use Rattle.std.specs.Prelude.{◌≡◌, ℕ, Bool, true, ◌+◌, ◌*◌, ◌≤◌, IfSome, List, cond, length, nat_eq};
-ghost use Rattle.polynomials.specs.Calls.{Multiplies};
+ghost use Rattle.std.specs.Prelude.{◌≡◌, ℕ, Bool, true, ◌+◌, ◌*◌, ◌≤◌, IfSome, List, cond, length, nat_eq, replicate};
+ghost use Rattle.polynomials.specs.Calls.{IsWithMultiple, Multiplies};
 ghost use Rattle.polynomials.specs.Values.{Same};
 ghost use Rattle.circuits.specs.declared.net.NetNode.{NetNode};
 ghost use Rattle.circuits.specs.Net.{holds, IsIn, IsNet, Means};
@@ -28,6 +28,17 @@ fn times(alloc: Global, width: u32, p: &Polynomial, q: &Polynomial) -> Option<Po
 {
     match multiply(alloc, width, p, q) {
         Ok(Some(product)) => Some(product),
+        _ => None,
+    }
+}
+
+// p + coefficient * q, where memory and the limits on polynomials allow it
+fn plus(width: u32, mut p: Polynomial, coefficient: u64, q: &Polynomial) -> Option<Polynomial>
+    requires { width ≤ 64 }
+    ensures { IfSome result (λ r. IsWithMultiple width p coefficient (replicate 6 0) q.now r) }
+{
+    match p.add_multiple(width, coefficient, [0; 6], q) {
+        Ok(true) => Some(p),
         _ => None,
     }
 }
@@ -333,16 +344,11 @@ impl Hints {
     {
         let width = a.len() as u32;
         let alloc = self.alloc;
-        let mut sum = self.multiplied(alloc, nodes, quotient, b)?;
+        let product = self.multiplied(alloc, nodes, quotient, b)?;
         let part = self.told(alloc, nodes, rest)?;
         let whole = self.told(alloc, nodes, a)?;
-        if !sum.add_multiple(width, 1, [0; 6], &part).ok()? {
-            return None;
-        }
-        if !sum.add_multiple(width, u64::MAX, [0; 6], &whole).ok()? {
-            return None;
-        }
-        Some(sum)
+        let sum = plus(width, product, 1, &part)?;
+        plus(width, sum, u64::MAX, &whole)
     }
 
     // the truth of a bit, times what is 0 where it is true
@@ -392,13 +398,12 @@ impl Hints {
             (number v nodes.now a.now) }
         ensures hints { AreTrue nodes.now self.new }
     {
-        let Some(mut law) = self.law(nodes, a, b, quotient, rest, some) else {
-            return;
-        };
-        law.normalise(a.len() as u32);
-        // (a constant is 0, which says nothing)
-        if law.as_constant().is_none() {
-            self.zeros.add_law(a.len() as u32, law);
+        if let Some(mut law) = self.law(nodes, a, b, quotient, rest, some) {
+            law.normalise(a.len() as u32);
+            // (a constant is 0, which says nothing)
+            if law.as_constant().is_none() {
+                self.zeros.add_law(a.len() as u32, law);
+            }
         }
     }
 }
