@@ -82,8 +82,8 @@ number_law w s m n q r x y hm hn hq hr e ex ey =
     same_trans (same_by left) (same_trans law (same_by (sized w s m hm)))
 
 -- ---- the circuit
-counted_lt : {net : List NetNode} {bits : List Bit} {w : ℕ} (v : ℕ → Bool) → length bits ≡ w → number v net bits < 2 ^ w
-counted_lt {net} {bits} {w} v e = subst (λ (k : ℕ). number v net bits < 2 ^ k) e (number_lt v net bits)
+counted_lt : {w : ℕ} (v : ℕ → Bool) (net : List NetNode) (bits : List Bit) → length bits ≡ w → number v net bits < 2 ^ w
+counted_lt {w} v net bits e = subst (λ (k : ℕ). number v net bits < 2 ^ k) e (number_lt v net bits)
 
 -- both results with their signs
 pub division_made : {m : DataModel} {ty : IntType} {old mid new : List NetNode} {quotient rest : List Bit} {d : Division} (a b : List Bit)
@@ -99,8 +99,8 @@ division_made {m} {ty} {old} {mid} {new} {quotient} {rest} {d} a b ha hb k some 
     let s = is_signed ty in
     let la : (v : ℕ → Bool) → number v old a < 2 ^ w = counts_lt (typed_counts ha) in
     let lb : (v : ℕ → Bool) → number v old b < 2 ^ w = counts_lt (typed_counts hb) in
-    let lq : (v : ℕ → Bool) → number v mid quotient < 2 ^ w = λ (v : ℕ → Bool). counted_lt v k.quotient_wide in
-    let lr : (v : ℕ → Bool) → number v mid rest < 2 ^ w = λ (v : ℕ → Bool). counted_lt v k.rest_wide in
+    let lq : (v : ℕ → Bool) → number v mid quotient < 2 ^ w = λ (v : ℕ → Bool). counted_lt v mid quotient k.quotient_wide in
+    let lr : (v : ℕ → Bool) → number v mid rest < 2 ^ w = λ (v : ℕ → Bool). counted_lt v mid rest k.rest_wide in
     let t : (ℕ → Bool) → Bool = λ v. xor (negative w s (number v old a)) (negative w s (number v old b)) in
     let whole : (v : ℕ → Bool) → nat_eq (number v old b) 0 ≡ false → number v mid quotient * size w s (number v old b) + number v mid rest ≡ size w s (number v old a) =
     λ (v : ℕ → Bool) (z : nat_eq (number v old b) 0 ≡ false).

@@ -41,7 +41,8 @@ pub fn with_sign(
 {
     // (as of all numbers of unsigned types)
     if test == not(net.yes()) {
-        return copied(alloc, a);
+        let same = copied(alloc, a)?;
+        return Ok(same);
     }
     let zero = zeros(alloc, net, a.len())?;
     let mut opposite = difference(alloc, net, &zero, a)?;
