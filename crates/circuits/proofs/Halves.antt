@@ -1,5 +1,5 @@
 -- Quotients and remainders in a type, from the distances from 0.
-use Rattle.std.proofs.Common.{◌≡◌, ℕ, ◌+◌, ◌-◌, ◌/◌, ◌%◌, ◌^◌, ◌<◌, Bool, true, false, cond, not, ◌&&◌, nat_lt, nat_eq, pos, negsuc, int_div, int_rem, List, length, refl, sym, ◌∙◌, ap, subst, arith, suc}
+use Rattle.std.proofs.Common.{◌≡◌, ℕ, ◌+◌, ◌-◌, ◌/◌, ◌%◌, ◌^◌, ◌<◌, Bool, true, false, cond, not, ◌&&◌, nat_lt, nat_eq, pos, negsuc, int_div, int_rem, List, length, refl, sym, ◌∙◌, ap, arith, suc}
 use Rattle.std.proofs.lemmas.Nat.{pow_pos}
 use Rattle.std.proofs.Math.Nat.{mod-eq_of_lt}
 use Rattle.std.proofs.lemmas.Bool.{ltb-false, eqb-false, ne_eqb}
@@ -14,12 +14,11 @@ use Rattle.circuits.specs.declared.net.NetNode.{NetNode}
 use Rattle.circuits.specs.declared.bits.Outcome.{Outcome}
 use Rattle.circuits.specs.declared.quotients.Division.{Division}
 use Rattle.circuits.specs.Net.{xor, Means}
-use Rattle.circuits.specs.Numbers.{number, digit, typed, read, AreTyped, Counts}
+use Rattle.circuits.specs.Numbers.{number, digit, typed, read, AreTyped}
 use Rattle.circuits.specs.Gates.{negative, size}
 use Rattle.circuits.specs.Division.{Divides, IsDivision}
 use Rattle.circuits.specs.Outcome.{Gives}
 use Rattle.circuits.proofs.Nets.{means_by}
-use Rattle.circuits.proofs.Counting.{number_lt}
 use Rattle.circuits.proofs.Carrying.{counts_lt}
 use Rattle.circuits.proofs.Summed.{typed_counts}
 use Rattle.circuits.proofs.Reading.{ranged}
