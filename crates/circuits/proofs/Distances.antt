@@ -1,13 +1,14 @@
 -- Circuits on signs and distances from 0.
-use Rattle.std.proofs.Common.{◌≡◌, ℕ, ◌+◌, ◌-◌, ◌*◌, ◌%◌, ◌^◌, ◌<◌, ◌≤◌, Bool, true, cond, not, ◌&&◌, nat_lt, List, [], ◌∷◌, ◌++◌, length, refl, ◌∙◌, ap, arith}
+use Rattle.std.proofs.Common.{◌≡◌, ℕ, ◌+◌, ◌-◌, ◌*◌, ◌%◌, ◌^◌, ◌<◌, ◌≤◌, Bool, true, cond, not, ◌&&◌, nat_lt, List, [], ◌∷◌, ◌++◌, length, refl, sym, ◌∙◌, ap, arith}
 use Rattle.std.proofs.lemmas.List.Elements.{All-cons}
 use Rattle.circuits.specs.declared.net.Bit.{Bit}
 use Rattle.circuits.specs.declared.net.NetNode.{NetNode}
-use Rattle.circuits.specs.Net.{holds, Means, IsIn, Grown}
+use Rattle.circuits.specs.Net.{holds, opposite, Means, IsIn, Grown}
 use Rattle.circuits.specs.Numbers.{number, digit, AreIn, Counts}
 use Rattle.circuits.specs.Gates.{negative, size}
+use Rattle.circuits.proofs.Nets.{opp}
 use Rattle.circuits.proofs.Counting.{in_none, number-one, number_lt, number_stays}
-use Rattle.circuits.proofs.Carrying.{counts_by, counts_wide, joined_counts}
+use Rattle.circuits.proofs.Carrying.{own_counts, counts_by, counts_same, counts_wide, joined_counts}
 use Rattle.circuits.proofs.Sizes.{size_mod}
 
 pub one_counts : {net : List NetNode} {b : Bit} {f : (ℕ → Bool) → Bool} → Means net b f → Counts net (b ∷ []) 1 (λ v. digit (f v))
@@ -51,6 +52,14 @@ with_sign_of {old} {new} {out} {xs} {t} {w} {f} {g} c m d = record {
       c.is v ∙ ap (λ k. cond (holds v old t) ((2 ^ k - number v old xs) % 2 ^ k) (number v old xs)) d.wide
       ∙ ap (λ b. cond b ((2 ^ w - number v old xs) % 2 ^ w) (number v old xs)) (m.is v) ∙ ap (λ n. cond (f v) ((2 ^ w - n) % 2 ^ w) n) (d.is v);
 }
+
+-- where the test is constantly false
+pub unturned : {net : List NetNode} {t x y : Bit} {out : List Bit} (xs : List Bit) → t ≡ x → x ≡ opposite y → Means net y (λ v. true) → AreIn net xs → out ≡ xs
+    → Counts net out (length xs) (λ v. cond (holds v net t) ((2 ^ length xs - number v net xs) % 2 ^ length xs) (number v net xs))
+unturned {net} {t} {x} {y} {out} xs et ex my hx eo =
+    let never = opp ex my in
+    counts_by (λ v. cond (holds v net t) ((2 ^ length xs - number v net xs) % 2 ^ length xs) (number v net xs)) (counts_same eo (own_counts net xs hx))
+    (λ v. sym (ap (λ b. cond b ((2 ^ length xs - number v net xs) % 2 ^ length xs) (number v net xs)) (ap (holds v net) et ∙ never.is v)))
 
 pub exceeds_of : {old new : List NetNode} {xs : List Bit} {r t : Bit} {i w n : ℕ} {f : (ℕ → Bool) → Bool} {g : (ℕ → Bool) → ℕ} (s : Bool)
     → Means new r (λ v. s && not (nat_lt (number v old xs) (2 ^ (i - 1) + digit (holds v old t)))) → i ≡ w → Means old t f → Counts old xs n g

@@ -1,5 +1,5 @@
 -- Quotients and remainders in a type, from the distances from 0.
-use Rattle.std.proofs.Common.{◌≡◌, ℕ, ◌+◌, ◌-◌, ◌/◌, ◌%◌, ◌^◌, ◌<◌, Bool, true, false, cond, not, ◌&&◌, nat_lt, nat_eq, pos, negsuc, int_div, int_rem, List, length, refl, sym, ◌∙◌, ap, subst, arith, suc}
+use Rattle.std.proofs.Common.{◌≡◌, ℕ, ◌+◌, ◌-◌, ◌/◌, ◌%◌, ◌^◌, ◌<◌, Bool, true, false, cond, not, ◌&&◌, nat_lt, nat_eq, pos, negsuc, int_div, int_rem, List, length, refl, sym, ◌∙◌, ap, arith, suc}
 use Rattle.std.proofs.lemmas.Nat.{pow_pos}
 use Rattle.std.proofs.Math.Nat.{mod-eq_of_lt}
 use Rattle.std.proofs.lemmas.Bool.{ltb-false, eqb-false, ne_eqb}
@@ -12,13 +12,13 @@ use Rattle.c_core.specs.declared.number.Done.TheVariants.{Undefined}
 use Rattle.circuits.specs.declared.net.Bit.{Bit}
 use Rattle.circuits.specs.declared.net.NetNode.{NetNode}
 use Rattle.circuits.specs.declared.bits.Outcome.{Outcome}
+use Rattle.circuits.specs.declared.quotients.Division.{Division}
 use Rattle.circuits.specs.Net.{xor, Means}
-use Rattle.circuits.specs.Numbers.{number, digit, typed, read, AreTyped, Counts}
+use Rattle.circuits.specs.Numbers.{number, digit, typed, read, AreTyped}
 use Rattle.circuits.specs.Gates.{negative, size}
-use Rattle.circuits.specs.Division.{Divides}
+use Rattle.circuits.specs.Division.{Divides, IsDivision}
 use Rattle.circuits.specs.Outcome.{Gives}
 use Rattle.circuits.proofs.Nets.{means_by}
-use Rattle.circuits.proofs.Counting.{number_lt}
 use Rattle.circuits.proofs.Carrying.{counts_lt}
 use Rattle.circuits.proofs.Summed.{typed_counts}
 use Rattle.circuits.proofs.Reading.{ranged}
@@ -77,52 +77,33 @@ division_over {m} {ty} {old} {mid} {new} {quotient} {rest} {r} a b ha hb d over 
     means_by _ _ _ _ over (λ v. over_at w s (number v old a) (number v old b) (number v mid quotient) (counts_lt (typed_counts ha) v) (lb v)
     (λ e. d.quotient_is v (size_pos w s (number v old b) (lb v) e)) (nat_eq (number v old b) 0) refl)
 
-pub quotient_gives : {m : DataModel} {ty : IntType} {old mid new : List NetNode} {quotient rest bits : List Bit} {o : Outcome} (a b : List Bit)
-    → promote_of ty ≡ ty → AreTyped m ty old a → AreTyped m ty old b
-    → Divides mid (width_of m ty) (width_of m ty) (λ v. size (width_of m ty) (is_signed ty) (number v old a)) (λ v. size (width_of m ty) (is_signed ty) (number v old b)) quotient rest
+pub quotient_gives : {m : DataModel} {ty : IntType} {old new : List NetNode} {d : Division} {o : Outcome} (a b : List Bit)
+    → promote_of ty ≡ ty → IsDivision m ty old new a b d
     → Means new o.overflow (λ v. not (nat_eq (number v old b) 0) && (is_signed ty && not (in_range m ty (int_div (typed m ty v old a) (typed m ty v old b)))))
     → Means new o.undefined (λ v. nat_eq (number v old b) 0)
-    → Counts new bits (width_of m ty) (λ v. cond (xor (negative (width_of m ty) (is_signed ty) (number v old a)) (negative (width_of m ty) (is_signed ty) (number v old b))) ((2 ^ width_of m ty - number v mid quotient) % 2 ^ width_of m ty) (number v mid quotient))
-    → o.value.bits ≡ bits
+    → o.value.bits ≡ d.quotient.items
     → Gives m ty new o (λ v. apply_of m Div ty (typed m ty v old a) (typed m ty v old b))
-quotient_gives {m} {ty} {old} {mid} {new} {quotient} {rest} {bits} {o} a b p ha hb d over undef value e =
-    let w = width_of m ty in
-    let s = is_signed ty in
-    let la : (v : ℕ → Bool) → number v old a < 2 ^ w = counts_lt (typed_counts ha) in
-    let lb : (v : ℕ → Bool) → number v old b < 2 ^ w = counts_lt (typed_counts hb) in
-    let lq : (v : ℕ → Bool) → number v mid quotient < 2 ^ w = λ (v : ℕ → Bool). subst (λ (k : ℕ). number v mid quotient < 2 ^ k) d.quotient_wide (number_lt v mid quotient) in
-    let t : (ℕ → Bool) → Bool = λ v. xor (negative w s (number v old a)) (negative w s (number v old b)) in
+quotient_gives {m} {ty} {old} {new} {d} {o} a b p k over undef e =
     gives_same
     (gives_partial {u = λ v. nat_eq (number v old b) 0} (λ v. not (in_range m ty (int_div (typed m ty v old a) (typed m ty v old b)))) (λ v. int_div (typed m ty v old a) (typed m ty v old b)) p
-    (record { inside = rw e value.inside; wide = ap length e ∙ value.wide })
-    (λ v z. ap (number v new) e ∙ value.is v ∙ signed_residue w (t v) (number v mid quotient) (lq v)
-    ∙ ap (λ k. residue w (signed_number (t v) k)) (d.quotient_is v (size_pos w s (number v old b) (lb v) z))
-    ∙ ap (λ k. residue w k) (sym (division_is w s (number v old a) (number v old b) (la v) (lb v) z)))
+    (record { inside = rw e k.quotient_in.inside; wide = ap length e ∙ k.quotient_in.wide })
+    (λ v z. ap (number v new) e ∙ k.quotient_is v z)
     over undef)
-    (λ v. ap (λ z. cond z Undefined (judged m ty (not (in_range m ty (int_div (typed m ty v old a) (typed m ty v old b)))) (int_div (typed m ty v old a) (typed m ty v old b)))) (sym (zero_read w s (number v old b))))
+    (λ v. ap (λ z. cond z Undefined (judged m ty (not (in_range m ty (int_div (typed m ty v old a) (typed m ty v old b)))) (int_div (typed m ty v old a) (typed m ty v old b)))) (sym (zero_read (width_of m ty) (is_signed ty) (number v old b))))
 
-pub remainder_gives : {m : DataModel} {ty : IntType} {old mid new : List NetNode} {quotient rest bits : List Bit} {o : Outcome} (a b : List Bit)
-    → promote_of ty ≡ ty → AreTyped m ty old a → AreTyped m ty old b
-    → Divides mid (width_of m ty) (width_of m ty) (λ v. size (width_of m ty) (is_signed ty) (number v old a)) (λ v. size (width_of m ty) (is_signed ty) (number v old b)) quotient rest
+pub remainder_gives : {m : DataModel} {ty : IntType} {old new : List NetNode} {d : Division} {o : Outcome} (a b : List Bit)
+    → promote_of ty ≡ ty → IsDivision m ty old new a b d
     → Means new o.overflow (λ v. not (nat_eq (number v old b) 0) && (is_signed ty && not (in_range m ty (int_div (typed m ty v old a) (typed m ty v old b)))))
     → Means new o.undefined (λ v. nat_eq (number v old b) 0)
-    → Counts new bits (width_of m ty) (λ v. cond (negative (width_of m ty) (is_signed ty) (number v old a)) ((2 ^ width_of m ty - number v mid rest) % 2 ^ width_of m ty) (number v mid rest))
-    → o.value.bits ≡ bits
+    → o.value.bits ≡ d.rest.items
     → Gives m ty new o (λ v. apply_of m Rem ty (typed m ty v old a) (typed m ty v old b))
-remainder_gives {m} {ty} {old} {mid} {new} {quotient} {rest} {bits} {o} a b p ha hb d over undef value e =
-    let w = width_of m ty in
-    let s = is_signed ty in
-    let la : (v : ℕ → Bool) → number v old a < 2 ^ w = counts_lt (typed_counts ha) in
-    let lb : (v : ℕ → Bool) → number v old b < 2 ^ w = counts_lt (typed_counts hb) in
-    let lr : (v : ℕ → Bool) → number v mid rest < 2 ^ w = λ (v : ℕ → Bool). subst (λ (k : ℕ). number v mid rest < 2 ^ k) d.rest_wide (number_lt v mid rest) in
+remainder_gives {m} {ty} {old} {new} {d} {o} a b p k over undef e =
     gives_same
     (gives_partial {u = λ v. nat_eq (number v old b) 0} (λ v. not (in_range m ty (int_div (typed m ty v old a) (typed m ty v old b)))) (λ v. int_rem (typed m ty v old a) (typed m ty v old b)) p
-    (record { inside = rw e value.inside; wide = ap length e ∙ value.wide })
-    (λ v z. ap (number v new) e ∙ value.is v ∙ signed_residue w (negative w s (number v old a)) (number v mid rest) (lr v)
-    ∙ ap (λ k. residue w (signed_number (negative w s (number v old a)) k)) (d.rest_is v (size_pos w s (number v old b) (lb v) z))
-    ∙ ap (λ k. residue w k) (sym (remainder_is w s (number v old a) (number v old b) (la v) (lb v) z)))
+    (record { inside = rw e k.rest_in.inside; wide = ap length e ∙ k.rest_in.wide })
+    (λ v z. ap (number v new) e ∙ k.rest_is v z)
     over undef)
-    (λ v. ap (λ z. cond z Undefined (judged m ty (not (in_range m ty (int_div (typed m ty v old a) (typed m ty v old b)))) (int_rem (typed m ty v old a) (typed m ty v old b)))) (sym (zero_read w s (number v old b))))
+    (λ v. ap (λ z. cond z Undefined (judged m ty (not (in_range m ty (int_div (typed m ty v old a) (typed m ty v old b)))) (int_rem (typed m ty v old a) (typed m ty v old b)))) (sym (zero_read (width_of m ty) (is_signed ty) (number v old b))))
 
 -- twice negated
 pub twice : {net : List NetNode} {r : Bit} {f : (ℕ → Bool) → Bool} → Means net r (λ v. not (not (f v))) → Means net r f

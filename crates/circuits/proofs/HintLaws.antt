@@ -1,7 +1,7 @@
 -- What sums, products and choices of polynomials over words tell.
 use Rattle.std.proofs.Common.{◌≡◌, ℕ, ◌+◌, ◌*◌, ◌%◌, ◌^◌, ◌<◌, ◌≤◌, nat_eq, nat_lt, cond, Bool, true, false, List, [], ◌∷◌, length, not, refl, sym, ◌∙◌, ap, subst, arith}
 use Rattle.std.proofs.lemmas.List.Elements.{All-nil, All-replicate}
-use Rattle.polynomials.specs.Values.{AreFactorsBelow, product_of, value}
+use Rattle.polynomials.specs.Values.{AreFactorsBelow, product_of, value, Same}
 use Rattle.polynomials.specs.Calls.{IsWithMultiple, IsWithTerm, Multiplies, HasSameZeros, IsConstant}
 use Rattle.polynomials.specs.declared.polynomial.Term.{Term}
 use Rattle.polynomials.proofs.Sameness.{same_refl, same_by, same_trans, same_add, same_mul, same_narrow}
@@ -15,7 +15,7 @@ use Rattle.circuits.specs.Words.{unknown, Tells, IsZeroOf, IsOrderOf, AreOperand
 use Rattle.circuits.proofs.Nets.{means_yes, opp}
 use Rattle.circuits.proofs.Counting.{number_lt}
 use Rattle.circuits.proofs.WordLaws.{truths, tells_by, zeros_after, orders_after}
-use Rattle.circuits.proofs.Congruence.{choice, equal_where_zero, same_fewer}
+use Rattle.circuits.proofs.Congruence.{choice, equal_where_zero, same_fewer, same_zero, vanishes}
 
 -- as many digits, by another name
 pub tells_wide : {net : List NetNode} {ws : List (List Bit)} {w x : ℕ} {p : List Term} {f : (ℕ → Bool) → ℕ} → w ≡ x → Tells net ws w p f → Tells net ws x p f
@@ -119,6 +119,31 @@ order_told {net} {ws} {w} {lesser} {greater} {f} {g} {bit} l r m = record {
       ∙ ap (λ k. nat_lt (f v % 2 ^ w) k) (r.is v).is
       ∙ sym (m.is v);
 }
+
+-- ---- laws
+-- a truth times what is 0 where it is 1
+law_zero : (w m q b r a : ℕ) (truth : Bool) → w ≤ 64 → m + 1 ≡ 2 ^ 64 → (truth ≡ true → Same w (q * b + r) a)
+    → Same w (digit truth * (q * b + 1 * r + m * a)) 0
+law_zero w m q b r a false l e h = same_by (omega arith)
+law_zero w m q b r a true l e h =
+    let apart : 1 * (q * b + 1 * r + m * a) ≡ q * b + r + m * a = omega arith in
+    same_trans (same_by apart) (same_trans (same_add (h refl) (same_refl w (m * a))) (vanishes w m a l e))
+
+-- a law in its normal form
+pub zero_law : {net : List NetNode} {ws : List (List Bit)} {w : ℕ} {p q : List Term} (some : Bit) (quotient b rest a : List Bit) (m : ℕ) → IsNet net → w ≤ 64 → m + 1 ≡ 2 ^ 64
+    → Tells net ws w p (λ v. digit (holds v net some) * (number v net quotient * number v net b + 1 * number v net rest + m * number v net a))
+    → ((v : ℕ → Bool) → holds v net some ≡ true → Same w (number v net quotient * number v net b + number v net rest) (number v net a))
+    → HasSameZeros w p q → IsZeroOf net ws w q (record { node = 0; negated = false })
+zero_law {net} {ws} {w} {p} {q} some quotient b rest a m n l e t is z =
+    let yes = means_yes net n in
+    record {
+      inside = yes.inside;
+      over = z.within (2 * length ws + 2) t.over;
+      is = λ v.
+          let none : Same w (value (unknown v net ws) p) 0 =
+          same_trans (t.is v) (law_zero w m (number v net quotient) (number v net b) (number v net rest) (number v net a) (holds v net some) l e (is v)) in
+          ap (λ k. nat_eq k 0) (same_zero (z.kept (unknown v net ws) none)) ∙ sym (yes.is v);
+    }
 
 -- all hints, as words are added
 pub true_after : {net : List NetNode} {hints : Hints} (words : Words) → AreTrue net hints → AreWords net words.list.items

@@ -29,3 +29,4 @@ pub mod Unknowns
 pub mod FactLaws
 pub mod Ordered
 pub mod OrderLaws
+pub mod DivisionLaw

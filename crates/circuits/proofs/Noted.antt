@@ -74,7 +74,7 @@ sum_noted {m} {ty} {old} {mid} {o} {out} {most} a b p g ha hb given e =
     (same_trans (same_mod w (number v old a + number v old b))
     (same_by (omega (arith, number_stays v most old mid a g ha.inside, number_stays v most old mid b g hb.inside)))))
 
-same_whole : (w k : ℕ) → Same w (k * 2 ^ w) 0
+pub same_whole : (w k : ℕ) → Same w (k * 2 ^ w) 0
 same_whole w k =
     let e : k * 2 ^ w ≡ 0 + k * 2 ^ w = omega arith in
     record { is = ap (λ n. n % 2 ^ w) e ∙ add-mul-mod_self_right 0 k (2 ^ w) }
@@ -113,7 +113,7 @@ left_whole p m n k e = omega (arith, ap (λ x. n * x) e)
 right_whole : (m q n k : ℕ) → q + n ≡ k → m * q + m * n ≡ m * k
 right_whole m q n k e = omega (arith, ap (λ x. m * x) e)
 
-both_turned : (w p q m n : ℕ) → p + m ≡ 2 ^ w → q + n ≡ 2 ^ w → Same w (p * q) (m * n)
+pub both_turned : (w p q m n : ℕ) → p + m ≡ 2 ^ w → q + n ≡ 2 ^ w → Same w (p * q) (m * n)
 both_turned w p q m n e f =
     let left : p * q + p * n ≡ p * 2 ^ w = right_whole p q n (2 ^ w) f in
     let right : m * n + p * n ≡ n * 2 ^ w = (let r : p * n + m * n ≡ n * 2 ^ w = left_whole p m n (2 ^ w) e in omega (arith, r)) in

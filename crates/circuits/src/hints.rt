@@ -1,6 +1,6 @@
 // What is known of words beside the nodes of a net. Where memory or a limit stands in the way, less is known.
-ghost use Rattle.std.specs.Prelude.{◌≡◌, ℕ, Bool, ◌+◌, ◌*◌, ◌≤◌, IfSome, List, cond, length, nat_eq, nat_lt, ◌%◌, ◌^◌};
-ghost use Rattle.polynomials.specs.Calls.{Multiplies};
+ghost use Rattle.std.specs.Prelude.{◌≡◌, ℕ, Bool, ◌+◌, ◌*◌, ◌≤◌, IfSome, List, cond, length, nat_eq, nat_lt, ◌%◌, ◌^◌, true, replicate};
+ghost use Rattle.polynomials.specs.Calls.{Multiplies, IsWithMultiple};
 ghost use Rattle.polynomials.specs.Values.{Same};
 ghost use Rattle.circuits.specs.declared.net.NetNode.{NetNode};
 ghost use Rattle.circuits.specs.Net.{holds, IsIn, IsNet, Means};
@@ -30,6 +30,17 @@ fn times(alloc: Global, width: u32, p: &Polynomial, q: &Polynomial) -> Option<Po
 {
     match multiply(alloc, width, p, q) {
         Ok(Some(product)) => Some(product),
+        _ => None,
+    }
+}
+
+// p + coefficient * q, where memory and the limits on polynomials allow it
+fn plus(width: u32, mut p: Polynomial, coefficient: u64, q: &Polynomial) -> Option<Polynomial>
+    requires { width ≤ 64 }
+    ensures { IfSome result (λ r. IsWithMultiple width p coefficient (replicate 6 0) q.now r) }
+{
+    match p.add_multiple(width, coefficient, [0; 6], q) {
+        Ok(true) => Some(p),
         _ => None,
     }
 }
@@ -359,6 +370,90 @@ impl Hints {
         };
         if let Some(greater) = self.moved(alloc, nodes, b, offset) {
             self.orders.add(a.len() as u32, lesser, greater, bit);
+        }
+    }
+
+    // quotient * b + rest - a
+    fn left_over(
+        &mut self,
+        nodes: &[NetNode],
+        a: &[Bit],
+        b: &[Bit],
+        quotient: &[Bit],
+        rest: &[Bit],
+    ) -> Option<Polynomial>
+        requires net { IsNet nodes.now }
+        requires hints { AreTrue nodes.now self.old }
+        requires operands { AreOperands nodes.now a.now b.now }
+        requires results { AreOperands nodes.now quotient.now rest.now }
+        requires same { length quotient.now ≡ length a.now }
+        ensures hints { AreTrue nodes.now self.new }
+        ensures tells { IfSome result (λ p. Tells nodes.now (bits_of self.new.words.list.items) (length a.now) p
+            (λ v. number v nodes.now quotient.now * number v nodes.now b.now + 1 * number v nodes.now rest.now
+            + 18446744073709551615 * number v nodes.now a.now)) }
+    {
+        let width = a.len() as u32;
+        let alloc = self.alloc;
+        let product = self.multiplied(alloc, nodes, quotient, b)?;
+        let part = self.told(alloc, nodes, rest)?;
+        let whole = self.told(alloc, nodes, a)?;
+        let sum = plus(width, product, 1, &part)?;
+        plus(width, sum, u64::MAX, &whole)
+    }
+
+    // the truth of a bit, times what is 0 where it is true
+    fn law(
+        &mut self,
+        nodes: &[NetNode],
+        a: &[Bit],
+        b: &[Bit],
+        quotient: &[Bit],
+        rest: &[Bit],
+        some: Bit,
+    ) -> Option<Polynomial>
+        requires net { IsNet nodes.now }
+        requires hints { AreTrue nodes.now self.old }
+        requires operands { AreOperands nodes.now a.now b.now }
+        requires results { AreOperands nodes.now quotient.now rest.now }
+        requires same { length quotient.now ≡ length a.now }
+        requires some_in { IsIn nodes.now some }
+        ensures hints { AreTrue nodes.now self.new }
+        ensures tells { IfSome result (λ p. Tells nodes.now (bits_of self.new.words.list.items) (length a.now) p
+            (λ v. digit (holds v nodes.now some) * (number v nodes.now quotient.now * number v nodes.now b.now
+            + 1 * number v nodes.now rest.now + 18446744073709551615 * number v nodes.now a.now))) }
+    {
+        let left_over = self.left_over(nodes, a, b, quotient, rest)?;
+        let truth = self.truth(self.alloc, nodes, some)?;
+        times(self.alloc, a.len() as u32, &truth, &left_over)
+    }
+
+    /// Where a bit is true, quotient * b + rest is a.
+    pub fn note_quotient(
+        &mut self,
+        nodes: &[NetNode],
+        a: &[Bit],
+        b: &[Bit],
+        quotient: &[Bit],
+        rest: &[Bit],
+        some: Bit,
+    )
+        requires net { IsNet nodes.now }
+        requires hints { AreTrue nodes.now self.old }
+        requires operands { AreOperands nodes.now a.now b.now }
+        requires results { AreOperands nodes.now quotient.now rest.now }
+        requires same { length quotient.now ≡ length a.now }
+        requires some_in { IsIn nodes.now some }
+        requires is { (v : ℕ → Bool) → holds v nodes.now some ≡ true → Same (length a.now)
+            (number v nodes.now quotient.now * number v nodes.now b.now + number v nodes.now rest.now)
+            (number v nodes.now a.now) }
+        ensures hints { AreTrue nodes.now self.new }
+    {
+        if let Some(mut law) = self.law(nodes, a, b, quotient, rest, some) {
+            law.normalise(a.len() as u32);
+            // (a constant is 0, which says nothing)
+            if law.as_constant().is_none() {
+                self.zeros.add_law(a.len() as u32, law);
+            }
         }
     }
 }

@@ -308,6 +308,21 @@ impl Net {
         self.hints.note_below(&self.nodes, a, b, offset, bit);
     }
 
+    /// Keeps in mind that quotient * b + rest is a, where a bit is true.
+    pub fn note_quotient(&mut self, a: &[Bit], b: &[Bit], quotient: &[Bit], rest: &[Bit], some: Bit)
+        requires operands { AreOperands self.old a.now b.now }
+        requires results { AreOperands self.old quotient.now rest.now }
+        requires same { length quotient.now ≡ length a.now }
+        requires some_in { IsIn self.old some }
+        requires is { (v : ℕ → Bool) → holds v self.old some ≡ true → Same (length a.now)
+            (number v self.old quotient.now * number v self.old b.now + number v self.old rest.now)
+            (number v self.old a.now) }
+        ensures { self.new ≡ self.old }
+    {
+        self.hints
+            .note_quotient(&self.nodes, a, b, quotient, rest, some);
+    }
+
     /// The conjunction of where runs are and a bit. Where that bit's value is known there, no node is added.
     pub fn under(&mut self, live: Bit, bit: Bit) -> Result<Bit, OutOfMemory>
         requires live_in { IsIn self.old live }

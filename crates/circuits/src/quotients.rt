@@ -5,7 +5,7 @@ ghost use Rattle.c_core.specs.Operators.{apply_of};
 ghost use Rattle.c_core.specs.declared.number.BinOp.TheVariants.{Div, Rem};
 ghost use Rattle.circuits.specs.Net.{Grown, IsIn};
 ghost use Rattle.circuits.specs.Numbers.{number, typed, AreIn, AreTyped};
-ghost use Rattle.circuits.specs.Division.{IsRow, Divides, IsJudged};
+ghost use Rattle.circuits.specs.Division.{IsRow, Divides, IsJudged, IsDivision};
 ghost use Rattle.circuits.specs.Gates.{size};
 ghost use Rattle.circuits.specs.Outcome.{Gives};
 
@@ -133,6 +133,67 @@ fn judge_quotient(
     Ok(Judged { some, overflow })
 }
 
+/// A quotient and its remainder in a type, whether there are any, and whether the type doesn't hold the quotient.
+#[derive(Drop)]
+pub struct Division {
+    pub quotient: Vec<Bit>,
+    pub rest: Vec<Bit>,
+    pub some: Bit,
+    pub overflow: Bit,
+}
+
+// both in a type: the quotient rounded towards 0, the remainder with the sign of a
+fn divide_in_type(
+    alloc: Global,
+    net: &mut Net,
+    model: DataModel,
+    ty: IntType,
+    a: &[Bit],
+    b: &[Bit],
+) -> Result<Division, OutOfMemory>
+    requires promoted { promote_of ty ≡ ty }
+    requires a_in { AreTyped model ty net.old a.now }
+    requires b_in { AreTyped model ty net.old b.now }
+    requires room { length net.old + 32 * width_of model ty ^ 2 ≤ 2 ^ 31 }
+    ensures grown { Grown (32 * width_of model ty ^ 2) net.old net.new }
+    ensures value { IfOk result (λ r. IsDivision model ty net.old net.new a.now b.now r) }
+{
+    let left = sign(net, ty, a);
+    let right = sign(net, ty, b);
+    let sizes = divide_magnitudes(alloc, net, ty, a, b)?;
+    let test = xor(net, left, right)?;
+    let judged = judge_quotient(alloc, net, ty, b, test, &sizes.quotient)?;
+    let quotient = with_sign(alloc, net, test, &sizes.quotient)?;
+    let rest = with_sign(alloc, net, left, &sizes.rest)?;
+    Ok(Division {
+        quotient,
+        rest,
+        some: judged.some,
+        overflow: judged.overflow,
+    })
+}
+
+// both, and their law: quotient * b + rest is a
+fn divide_by_law(
+    alloc: Global,
+    net: &mut Net,
+    model: DataModel,
+    ty: IntType,
+    a: &[Bit],
+    b: &[Bit],
+) -> Result<Division, OutOfMemory>
+    requires promoted { promote_of ty ≡ ty }
+    requires a_in { AreTyped model ty net.old a.now }
+    requires b_in { AreTyped model ty net.old b.now }
+    requires room { length net.old + 32 * width_of model ty ^ 2 ≤ 2 ^ 31 }
+    ensures grown { Grown (32 * width_of model ty ^ 2) net.old net.new }
+    ensures value { IfOk result (λ r. IsDivision model ty net.old net.new a.now b.now r) }
+{
+    let out = divide_in_type(alloc, net, model, ty, a, b)?;
+    net.note_quotient(a, b, &out.quotient, &out.rest, out.some);
+    Ok(out)
+}
+
 /// The quotient of two numbers in a type, rounded towards 0.
 pub fn divide(
     alloc: Global,
@@ -150,17 +211,12 @@ pub fn divide(
     ensures value { IfOk result (λ r. Gives model ty net.new r
         (λ v. apply_of model Div ty (typed model ty v net.old a.now) (typed model ty v net.old b.now))) }
 {
-    let left = sign(net, ty, a);
-    let right = sign(net, ty, b);
-    let sizes = divide_magnitudes(alloc, net, ty, a, b)?;
-    let test = xor(net, left, right)?;
-    let judged = judge_quotient(alloc, net, ty, b, test, &sizes.quotient)?;
-    let value = with_sign(alloc, net, test, &sizes.quotient)?;
-    let bits = Seq::from_vec(value);
+    let out = divide_by_law(alloc, net, model, ty, a, b)?;
+    let bits = Seq::from_vec(out.quotient);
     Ok(Outcome {
         value: Bits { bits },
-        overflow: judged.overflow,
-        undefined: not(judged.some),
+        overflow: out.overflow,
+        undefined: not(out.some),
     })
 }
 
@@ -181,16 +237,11 @@ pub fn remainder(
     ensures value { IfOk result (λ r. Gives model ty net.new r
         (λ v. apply_of model Rem ty (typed model ty v net.old a.now) (typed model ty v net.old b.now))) }
 {
-    let left = sign(net, ty, a);
-    let right = sign(net, ty, b);
-    let sizes = divide_magnitudes(alloc, net, ty, a, b)?;
-    let test = xor(net, left, right)?;
-    let judged = judge_quotient(alloc, net, ty, b, test, &sizes.quotient)?;
-    let value = with_sign(alloc, net, left, &sizes.rest)?;
-    let bits = Seq::from_vec(value);
+    let out = divide_by_law(alloc, net, model, ty, a, b)?;
+    let bits = Seq::from_vec(out.rest);
     Ok(Outcome {
         value: Bits { bits },
-        overflow: judged.overflow,
-        undefined: not(judged.some),
+        overflow: out.overflow,
+        undefined: not(out.some),
     })
 }

@@ -6,7 +6,7 @@ ghost use Rattle.circuits.specs.Numbers.{number, digit, AreIn, Counts};
 ghost use Rattle.circuits.specs.Gates.{negative, size};
 
 use crate::conversions::constant;
-use crate::lists::{choose, difference, flipped, joined, smaller, zeros};
+use crate::lists::{choose, copied, difference, flipped, joined, smaller, zeros};
 use crate::{Bit, Net, not};
 use c_core::{IntType, signed};
 use std::alloc::Global;
@@ -39,6 +39,11 @@ pub fn with_sign(
         (λ v. cond (holds v net.old test) ((2 ^ length a.now - number v net.old a.now) % 2 ^ length a.now)
         (number v net.old a.now))) }
 {
+    // (as of all numbers of unsigned types)
+    if test == not(net.yes()) {
+        let same = copied(alloc, a)?;
+        return Ok(same);
+    }
     let zero = zeros(alloc, net, a.len())?;
     let mut opposite = difference(alloc, net, &zero, a)?;
     opposite.truncate(a.len());

@@ -1,5 +1,5 @@
 // Bits that tell where polynomials are 0: equal questions have one answer.
-ghost use Rattle.std.specs.Prelude.{◌≡◌, ◌<◌, ◌≤◌, ◌^◌, List, [], IfSome, length};
+ghost use Rattle.std.specs.Prelude.{◌≡◌, ◌<◌, ◌≤◌, ◌^◌, List, [], IfSome, false, length};
 ghost use Rattle.circuits.specs.declared.net.Bit.{Bit};
 ghost use Rattle.circuits.specs.declared.net.NetNode.{NetNode};
 ghost use Rattle.circuits.specs.Words.{AreZeros, IsZeroOf};
@@ -21,12 +21,16 @@ pub struct Zero {
 #[derive(Drop)]
 pub struct Zeros {
     pub list: Vec<Zero>,
+    /// places of laws, whose bit is the constant true; a hint: whoever reads one looks whether it is within the list
+    pub laws: Vec<u32>,
     slots: Slots,
     by_node: Slots,
 }
 
 // more bits than these aren't kept
 const MOST_ZEROS: usize = 1 << 20;
+// more laws than these aren't kept
+const MOST_LAWS: usize = 64;
 
 impl Zeros {
     /// No question was asked.
@@ -35,6 +39,7 @@ impl Zeros {
     {
         Zeros {
             list: Vec::new(alloc),
+            laws: Vec::new(alloc),
             slots: Slots::new(alloc),
             by_node: Slots::new(alloc),
         }
@@ -116,8 +121,11 @@ impl Zeros {
             count.saturating_sub(1)
         };
         for at in from..count {
-            let hash = hash_of_node(self.list[at].bit.node);
-            self.by_node.put(hash, at as u32 + 1);
+            let node = self.list[at].bit.node;
+            // (nobody asks for the constant, which all laws have)
+            if node != 0 {
+                self.by_node.put(hash_of_node(node), at as u32 + 1);
+            }
         }
     }
 
@@ -135,6 +143,26 @@ impl Zeros {
             self.put_last();
             self.put_last_node();
         }
+    }
+
+    /// Keeps a law, a polynomial that is 0 under every input, where memory and the limits allow it.
+    pub fn add_law(&mut self, width: u32, polynomial: Polynomial)
+        ensures { (net : List NetNode) (words : List (List Bit)) → AreZeros net words self.old.list.items
+            → IsZeroOf net words width polynomial (record { node = 0; negated = false })
+            → AreZeros net words self.new.list.items }
+    {
+        let at = self.list.len();
+        if at >= MOST_ZEROS || self.laws.len() >= MOST_LAWS {
+            return;
+        }
+        if self.find(width, &polynomial).is_some() || self.laws.push(at as u32).is_err() {
+            return;
+        }
+        let yes = Bit {
+            node: 0,
+            negated: false,
+        };
+        self.add(width, polynomial, yes);
     }
 }
 

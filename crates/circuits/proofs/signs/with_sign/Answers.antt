@@ -1,9 +1,21 @@
-use Rattle.std.proofs.Common.{◌-◌, ◌%◌, ◌^◌, ◌∙◌, length, arith, ap, zero-add}
+use Rattle.std.proofs.Common.{rules, ◌≡◌, ◌-◌, ◌%◌, ◌^◌, ◌∙◌, length, arith, ap, zero-add}
 use Rattle.circuits.specs.Numbers.{number}
 use Rattle.circuits.proofs.Nets.{own, kept, grown_not, grown_then}
 use Rattle.circuits.proofs.Counting.{counts_later}
 use Rattle.circuits.proofs.Carrying.{own_counts, counts_by, counts_same, low_counts, difference_of, chosen_of}
+use Rattle.circuits.proofs.Distances.{unturned}
 use Rattle.circuits.proofs.signs.with_sign.Goals as goal
+
+pub returns-in_err-same-clause-grown : goal.returns-in_err-same-clause-grown
+returns-in_err-same-clause-grown c = grown_not _ _
+
+pub returns-then-eq-clause-grown : goal.returns-then-eq-clause-grown
+returns-then-eq-clause-grown c = grown_not _ _
+
+pub returns-then-eq-clause-value : goal.returns-then-eq-clause-value
+returns-then-eq-clause-value c =
+    let same : c.args.test ≡ c.not.result = search rules in
+    unturned _ same c.not.ensures c.yes.ensures c.requires.a_in c.in_ok-same.ensures
 
 pub returns-in_err-zero-clause-grown : goal.returns-in_err-zero-clause-grown
 returns-in_err-zero-clause-grown c = grown_not _ _
