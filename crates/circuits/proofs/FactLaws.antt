@@ -20,7 +20,7 @@ use Rattle.circuits.specs.Numbers.{digit, AreIn}
 use Rattle.circuits.specs.Words.{unknown, bits_of, AreWords, AreZeros, IsWord, IsZero, IsZeroOf}
 use Rattle.circuits.specs.Facts.{Condition, AllFollow, AreFacts, AreParted, IsAnswer, IsBoth, IsConjoined, IsDigit, IsEither, IsFact, IsLeftOut, IsRest, IsTruthFact, IsZeroWhere}
 use Rattle.circuits.proofs.Nodes.{and_arguments, means_found, found}
-use Rattle.circuits.proofs.Nets.{holds-opposite, means_by, opp}
+use Rattle.circuits.proofs.Nets.{holds-opposite, means_by, means_yes, opp}
 use Rattle.circuits.proofs.Unknowns.{factor_of, found_word, place_within, product_one, unknown_odd}
 use Rattle.circuits.proofs.Congruence.{vanishes, zero_same}
 use Rattle.circuits.proofs.HintLaws.{none_below}
@@ -205,8 +205,12 @@ answer_conjoined {net} {here} {left} {right} {o} {p} {value} plain b both s n l 
 pub zero_at : {net : List NetNode} {words : List (List Bit)} (zeros : List Zero) (at : ℕ) (d : Zero) → AreZeros net words zeros → at < length zeros → IsZero net words (get_or zeros at d)
 zero_at {net} {words} zeros at d all lt = All-get_or (λ z. IsZero net words z) zeros at d lt all
 
-zero_of : (x : ℕ) → nat_eq x 0 ≡ true → x ≡ 0
+pub zero_of : (x : ℕ) → nat_eq x 0 ≡ true → x ≡ 0
 zero_of x e = grind (arith, nat_tests)
+
+unsigned : (t : Bool) → t ≡ false → beq false t ≡ true
+unsigned true e = sym e
+unsigned false e = refl
 
 -- a test that is true wherever a bit is
 pub fact_of_test : {net : List NetNode} {words : List (List Bit)} {here : Condition} (known : List Bit) (at width : ℕ) (d : Bit) (z : Zero) → IsZeroOf net words z.width z.polynomial z.bit
@@ -217,6 +221,17 @@ fact_of_test {net} {words} {here} known at width d z zero f lt same w = record {
       let true_here : holds v net z.bit ≡ true = ap (holds v net) same ∙ All-get_or (λ x. holds v net x ≡ true) known at d lt (f.is v h) in
       subst (λ k. Same k (value (unknown v net words) z.polynomial) 0) w (zero_same (zero_of (value (unknown v net words) z.polynomial % 2 ^ z.width) (zero.is v ∙ true_here)));
 }
+
+-- a polynomial that is 0 under every input
+pub fact_of_law : {net : List NetNode} {words : List (List Bit)} {here : Condition} {w : ℕ} (z : Zero) → IsNet net → IsZeroOf net words z.width z.polynomial z.bit → z.bit.node ≡ 0 → z.bit.negated ≡ false
+    → z.width ≡ w → IsFact net words here w z.polynomial
+fact_of_law {net} {words} {here} {w} z n zero e s same =
+    let yes : (v : ℕ → Bool) → holds v net z.bit ≡ true =
+    λ v. sign_known v net (record { node = 0; negated = false }) z.bit true (sym e) ((means_yes net n).is v) ∙ plain_sign (beq false z.bit.negated) ∙ unsigned z.bit.negated s in
+    record {
+      over = zero.over;
+      is = λ v h. subst (λ k. Same k (value (unknown v net words) z.polynomial) 0) same (zero_same (zero_of (value (unknown v net words) z.polynomial % 2 ^ z.width) (zero.is v ∙ yes v)));
+    }
 
 pub digit_of : (words : List Word) (w : Word) {b : Bit} {above : List Bit} (at x : ℕ) → slice_get words at ≡ Some w → w.bits.items ≡ b ∷ above → x ≡ 2 * at + 3 → IsDigit (bits_of words) x b
 digit_of words w {b} {above} at x e f h =

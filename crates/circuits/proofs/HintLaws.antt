@@ -84,7 +84,7 @@ pub zero_asked : {net : List NetNode} {ws : List (List Bit)} {a b : List Bit} {q
     → Means net bit (λ v. nat_eq (number v net a) (number v net b)) → IsZeroOf net ws (length a) q bit
 zero_asked {net} {ws} {a} {b} {q} {bit} k m = record { inside = m.inside; over = k.over; is = λ v. k.is v ∙ sym (m.is v) }
 
-constant_bit : (net : List NetNode) (b : Bool) (f : (ℕ → Bool) → Bool) → IsNet net → ((v : ℕ → Bool) → b ≡ f v) → Means net (record { node = 0; negated = not b }) f
+pub constant_bit : (net : List NetNode) (b : Bool) (f : (ℕ → Bool) → Bool) → IsNet net → ((v : ℕ → Bool) → b ≡ f v) → Means net (record { node = 0; negated = not b }) f
 constant_bit net true f n e = let yes = means_yes net n in record { inside = yes.inside; is = λ v. yes.is v ∙ e v }
 constant_bit net false f n e = let no = opp refl (means_yes net n) in record { inside = no.inside; is = λ v. no.is v ∙ e v }
 

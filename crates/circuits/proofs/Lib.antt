@@ -30,3 +30,4 @@ pub mod FactLaws
 pub mod Ordered
 pub mod OrderLaws
 pub mod DivisionLaw
+pub mod AnswerLaws

@@ -22,6 +22,11 @@ pub record AllFollow (net : List NetNode) (here : Condition) (bits : List Bit) :
 pub record IsAnswer (net : List NetNode) (here : Condition) (b : Bit) (value : Bool) : Type 0 where
   pub is : (v : ℕ → Bool) → here v ≡ true → holds v net b ≡ value
 
+-- a bit that has the value of another wherever a condition is met
+pub record IsAlike (net : List NetNode) (here : Condition) (b r : Bit) : Type 0 where
+  pub inside : IsIn net r
+  pub is : (v : ℕ → Bool) → here v ≡ true → holds v net b ≡ holds v net r
+
 -- a polynomial over words that is 0 modulo 2^width wherever a condition is met
 pub record IsFact (net : List NetNode) (words : List (List Bit)) (here : Condition) (width : ℕ) (terms : List Term) : Type 0 where
   pub over : IsOver words terms
@@ -39,6 +44,11 @@ pub record IsBoth (net : List NetNode) (b left right : Bit) : Type 0 where
   pub left_in : IsIn net left
   pub right_in : IsIn net right
   pub is : (v : ℕ → Bool) → holds v net b ≡ (holds v net left && holds v net right)
+
+-- a bit is true exactly where two others are
+pub record IsConjunction (net : List NetNode) (left right b : Bit) : Type 0 where
+  pub inside : IsIn net b
+  pub is : (v : ℕ → Bool) → (holds v net left && holds v net right) ≡ holds v net b
 
 -- the value of a conjunction of two bits, of which some values are known
 pub record IsConjoined (left right : Option Bool) (r : Bool) : Type 0 where

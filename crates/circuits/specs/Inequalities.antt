@@ -37,3 +37,13 @@ pub record IsDifference (width : ℕ) (p q new : List Term) : Type 0 where
 -- p is q and a number more
 pub record IsMoreBy (width by : ℕ) (p q : List Term) : Type 0 where
   pub is : (v : ℕ → ℕ) → AreTruths v → Same width (value v p) (value v q + by)
+
+-- where a polynomial is 0, two pairs are the same numbers modulo 2^width
+pub record IsOtherDifference (width : ℕ) (a b c d apart : List Term) : Type 0 where
+  pub lesser : (v : ℕ → ℕ) → AreTruths v → Same width (value v apart) 0 → Same width (value v a) (value v c)
+  pub greater : (v : ℕ → ℕ) → AreTruths v → Same width (value v apart) 0 → Same width (value v b) (value v d)
+
+-- two pairs of polynomials over words are the same numbers modulo 2^width wherever a condition is met
+pub record IsSameOrder (net : List NetNode) (words : List (List Bit)) (here : Condition) (width : ℕ) (a b c d : List Term) : Type 0 where
+  pub lesser : (v : ℕ → Bool) → here v ≡ true → Same width (value (unknown v net words) a) (value (unknown v net words) c)
+  pub greater : (v : ℕ → Bool) → here v ≡ true → Same width (value (unknown v net words) b) (value (unknown v net words) d)

@@ -58,6 +58,11 @@ impl Hints {
         }
     }
 
+    /// Whether a bit of this node tells something of words, and isn't to be taken apart.
+    pub fn is_test(&self, node: u32) -> bool {
+        self.zeros.of_node(node).is_some() || self.orders.of_node(node).is_some()
+    }
+
     // a polynomial that tells the number of bits
     fn told(&mut self, alloc: Global, nodes: &[NetNode], bits: &[Bit]) -> Option<Polynomial>
         requires net { IsNet nodes.now }

@@ -15,11 +15,11 @@ use wv_base::OutOfMemory;
 
 /// Whether one polynomial is less than another, both modulo 2^width.
 #[derive(Drop)]
-struct Known {
-    width: u32,
-    lesser: Polynomial,
-    greater: Polynomial,
-    is_less: bool,
+pub struct Known {
+    pub width: u32,
+    pub lesser: Polynomial,
+    pub greater: Polynomial,
+    pub is_less: bool,
 }
 
 /// A polynomial that is 0 modulo 2^width.
@@ -35,8 +35,8 @@ const MOST_KNOWN: usize = 16;
 // so many equalities are given
 const MOST_EQUALITIES: usize = 8;
 
-// p - q, where the limit on terms allows it
-fn difference(
+/// p - q, where the limit on terms allows it.
+pub fn difference(
     alloc: Global,
     width: u32,
     p: &Polynomial,
@@ -52,8 +52,8 @@ fn difference(
     Ok(Some(rest))
 }
 
-// whether p is found to be q + by
-fn is_more_by(
+/// Whether p is found to be q + by.
+pub fn is_more_by(
     alloc: Global,
     width: u32,
     by: u64,
@@ -177,8 +177,12 @@ fn known_order(alloc: Global, orders: &Orders, bit: Bit) -> Result<Option<Known>
     }))
 }
 
-// the orders among these bits and their opposites
-fn known_orders(alloc: Global, orders: &Orders, known: &[Bit]) -> Result<Vec<Known>, OutOfMemory>
+/// The orders among these bits and their opposites.
+pub fn known_orders(
+    alloc: Global,
+    orders: &Orders,
+    known: &[Bit],
+) -> Result<Vec<Known>, OutOfMemory>
     ensures narrow { IfOk result (λ r. All (λ k. k.width ≤ 64) r.items) }
     ensures known { IfOk result (λ r. (net : List NetNode) (words : List (List Bit)) (here : Condition)
         → AreOrders net words orders.now.list.items → AllFollow net here known.now → AreKnown net words here r.items) }

@@ -6,7 +6,7 @@ ghost use Rattle.circuits.specs.Numbers.{number, AreIn};
 ghost use Rattle.circuits.specs.Words.{AreOperands};
 ghost use Rattle.circuits.specs.Net.{holds, opposite, Grown, Means, IsIn, IsNet, IsFolded, Folds, Stands, bit_in, node_in, values_of, count_ands, count_inputs};
 
-use crate::answers::answer;
+use crate::answers::simplified;
 use crate::hints::Hints;
 use crate::parts::parted;
 use crate::shared::Shared;
@@ -323,7 +323,8 @@ impl Net {
             .note_quotient(&self.nodes, a, b, quotient, rest, some);
     }
 
-    /// The conjunction of where runs are and a bit. Where that bit's value is known there, no node is added.
+    /// The conjunction of where runs are and a bit. Where that bit's value is known there, no node is added; where a part
+    /// of it is, that part is left out.
     pub fn under(&mut self, live: Bit, bit: Bit) -> Result<Bit, OutOfMemory>
         requires live_in { IsIn self.old live }
         requires bit_in { IsIn self.old bit }
@@ -333,12 +334,11 @@ impl Net {
         ensures refused { IfErr result (λ e. self.new ≡ self.old) }
     {
         let mut questions = self.questions;
-        let known = answer(&self.nodes, &self.hints, live, bit, &mut questions);
+        let part = simplified(&self.nodes, &self.hints, live, bit, &mut questions);
         self.questions = questions;
-        match known {
-            Ok(Some(true)) => Ok(live),
-            Ok(Some(false)) => Ok(not(self.yes())),
-            _ => self.and(live, bit),
+        match part {
+            Ok(part) => self.and(live, part),
+            Err(OutOfMemory) => self.and(live, bit),
         }
     }
 

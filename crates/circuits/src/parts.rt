@@ -4,7 +4,7 @@ ghost use Rattle.circuits.specs.declared.net.NetNode.{NetNode};
 ghost use Rattle.circuits.specs.Net.{holds, IsIn, IsNet};
 ghost use Rattle.circuits.specs.Facts.{Condition, AllFollow, AreParted, IsAnswer, IsBoth, IsConjoined, IsEither, IsLeftOut};
 
-use crate::zeros::Zeros;
+use crate::hints::Hints;
 use crate::{Bit, NetNode, not};
 use std::alloc::Global;
 use wv_base::OutOfMemory;
@@ -36,11 +36,11 @@ pub fn arguments(nodes: &[NetNode], bit: Bit) -> Option<Pair>
     }
 }
 
-/// Bits, and what is conjoined in those from a place on, the nearest first; what tells whether words are equal stays
-/// whole.
+/// Bits, and what is conjoined in those from a place on, the nearest first; what tells something of
+/// words stays whole.
 pub fn taken_apart(
     nodes: &[NetNode],
-    zeros: &Zeros,
+    hints: &Hints,
     known: Vec<Bit>,
     from: usize,
 ) -> Result<Vec<Bit>, OutOfMemory>
@@ -55,7 +55,7 @@ pub fn taken_apart(
             break;
         }
         let whole = all[at];
-        if zeros.of_node(whole.node).is_some() {
+        if hints.is_test(whole.node) {
             continue;
         }
         if let Some(pair) = arguments(nodes, whole) {
@@ -79,8 +79,8 @@ pub fn value_among(known: &[Bit], bit: Bit) -> Option<bool>
     None
 }
 
-/// The value of a conjunction, from what is known of the values of both.
-pub fn conjoined(left: Option<bool>, right: Option<bool>) -> Option<bool>
+// the value of a conjunction, from what is known of the values of both
+fn conjoined(left: Option<bool>, right: Option<bool>) -> Option<bool>
     ensures { IfSome result (λ r. IsConjoined left right r) }
 {
     match (left, right) {
@@ -135,7 +135,7 @@ fn left_out(nodes: &[NetNode], known: &[Bit], bit: Bit) -> Option<Bit>
 pub fn assumed(
     alloc: Global,
     nodes: &[NetNode],
-    zeros: &Zeros,
+    hints: &Hints,
     known: &[Bit],
     bit: Bit,
 ) -> Result<Vec<Bit>, OutOfMemory>
@@ -150,7 +150,7 @@ pub fn assumed(
     if let Some(other) = left_out(nodes, known, bit) {
         all.push(other)?;
     }
-    taken_apart(nodes, zeros, all, from)
+    taken_apart(nodes, hints, all, from)
 }
 
 // the bit that is the first of two pairs, whose others are opposite

@@ -1,14 +1,13 @@
 use Rattle.std.proofs.Common.{◌∙◌, ◌++◌, ◌∷◌, [], ap, subst, sym}
-use Rattle.std.proofs.lemmas.Option.{IfSome_then}
 use Rattle.std.proofs.lemmas.Result.{IfOk-weaker}
 use Rattle.circuits.specs.Net.{holds}
 use Rattle.circuits.specs.Facts.{AllFollow}
 use Rattle.circuits.proofs.FactLaws.{follow_own}
-use Rattle.circuits.proofs.answers.answer.Goals as goal
+use Rattle.circuits.proofs.answers.simplified.Goals as goal
 
 pub returns : goal.returns
 returns c =
     let net = c.args.nodes.now in
     let own = subst (λ l. AllFollow net (λ v. holds v net c.args.live) l) (ap (λ l. l ++ c.args.live ∷ []) (sym c.new-known.ensures.items) ∙ sym c.in_ok-push.ensures.items) (follow_own net c.args.live c.requires.live_in) in
     let known : AllFollow net (λ v. holds v net c.args.live) c.deref.result.now = rw c.deref.ensures.value (c.in_ok-known.ensures (λ v. holds v net c.args.live) own) in
-    IfOk-weaker c.value_where.result _ _ (λ r o. IfSome_then r o (λ value g. g (λ v. holds v net c.args.live) known)) c.value_where.ensures
+    IfOk-weaker c.part_where.result _ _ (λ r g. g (λ v. holds v net c.args.live) known) c.part_where.ensures
