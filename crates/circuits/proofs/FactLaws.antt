@@ -19,7 +19,7 @@ use Rattle.circuits.specs.Net.{holds, opposite, IsIn, IsNet, Means}
 use Rattle.circuits.specs.Numbers.{digit, AreIn}
 use Rattle.circuits.specs.Words.{unknown, bits_of, AreWords, AreZeros, IsWord, IsZero, IsZeroOf}
 use Rattle.circuits.specs.Facts.{Condition, AllFollow, AreFacts, AreParted, IsAnswer, IsBoth, IsConjoined, IsDigit, IsEither, IsFact, IsLeftOut, IsRest, IsTruthFact, IsZeroWhere}
-use Rattle.circuits.proofs.Nodes.{and_arguments, means_found, found}
+use Rattle.circuits.proofs.Nodes.{and_arguments, and_swapped, means_found, found}
 use Rattle.circuits.proofs.Nets.{holds-opposite, means_by, means_yes, opp}
 use Rattle.circuits.proofs.Unknowns.{factor_of, found_word, place_within, product_one, unknown_odd}
 use Rattle.circuits.proofs.Congruence.{vanishes, zero_same}
@@ -53,12 +53,6 @@ both_found net b left right h e f =
       right_in = omega (arith, here.0, before.right.1);
       is = λ v. ap (λ n. holds v net (record { node = b.node; negated = n })) e ∙ means.is v;
     }
-
-and_swapped : (a b : Bool) → (b && a) ≡ (a && b)
-and_swapped true true = refl
-and_swapped true false = refl
-and_swapped false true = refl
-and_swapped false false = refl
 
 pub both_swapped : {net : List NetNode} {b left right : Bit} → IsBoth net b left right → IsBoth net b right left
 both_swapped {net} {b} {left} {right} h = record {

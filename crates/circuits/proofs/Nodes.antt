@@ -76,7 +76,7 @@ means_found net a b at h e =
     let f = found net at (And a b) (Constant true) e in
     record { inside = f.0; is = λ v. and_value v net h at a b f.0 f.1 }
 
-and_swapped : (a b : Bool) → (b && a) ≡ (a && b)
+pub and_swapped : (a b : Bool) → (b && a) ≡ (a && b)
 and_swapped true true = refl
 and_swapped true false = refl
 and_swapped false true = refl

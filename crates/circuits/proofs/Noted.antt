@@ -31,9 +31,6 @@ use Rattle.circuits.proofs.Multiplied.{width_few}
 use Rattle.circuits.proofs.Congruence.{vanishes}
 use Rattle.circuits.proofs.Summed.{typed_counts}
 
-pub typed_later : {m : DataModel} {ty : IntType} {most : ℕ} {old new : List NetNode} {xs : List Bit} → Grown most old new → AreTyped m ty old xs → AreTyped m ty new xs
-typed_later {m} {ty} {most} {old} {new} {xs} g h = record { inside = are_in_later most old new xs g h.inside; wide = h.wide }
-
 -- numbers of one type
 pub operands_of : {m : DataModel} {ty : IntType} {net : List NetNode} {a b : List Bit} → AreTyped m ty net a → AreTyped m ty net b → AreOperands net a b
 operands_of {m} {ty} {net} {a} {b} ha hb = record { left = ha.inside; right = hb.inside; same = hb.wide ∙ sym ha.wide; wide = omega (arith, ha.wide, width_few m ty) }

@@ -1,5 +1,6 @@
 use Rattle.std.proofs.Common.{◌∙◌, sym, ap, length}
-use Rattle.circuits.proofs.Noted.{typed_later, operands_of, product_noted}
+use Rattle.circuits.proofs.Feeding.{typed_later}
+use Rattle.circuits.proofs.Noted.{operands_of, product_noted}
 use Rattle.circuits.proofs.products.multiply.Goals as goal
 
 pub note_product-requires-clause-operands : goal.note_product-requires-clause-operands

@@ -1,5 +1,6 @@
 use Rattle.std.proofs.Common.{◌∙◌, sym, ap, length}
-use Rattle.circuits.proofs.Noted.{typed_later, operands_of}
+use Rattle.circuits.proofs.Feeding.{typed_later}
+use Rattle.circuits.proofs.Noted.{operands_of}
 use Rattle.circuits.proofs.DivisionLaw.{law_noted, results_of}
 use Rattle.circuits.proofs.quotients.divide_by_law.Goals as goal
 

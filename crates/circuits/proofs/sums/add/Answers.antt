@@ -1,5 +1,6 @@
 use Rattle.std.proofs.Common.{◌∙◌, sym, ap, length}
-use Rattle.circuits.proofs.Noted.{typed_later, operands_of, sum_noted}
+use Rattle.circuits.proofs.Feeding.{typed_later}
+use Rattle.circuits.proofs.Noted.{operands_of, sum_noted}
 use Rattle.circuits.proofs.sums.add.Goals as goal
 
 pub note_combined-requires-clause-operands : goal.note_combined-requires-clause-operands

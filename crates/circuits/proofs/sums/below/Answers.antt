@@ -1,5 +1,6 @@
 use Rattle.circuits.proofs.Nets.{grown_until}
-use Rattle.circuits.proofs.Noted.{typed_later, operands_of}
+use Rattle.circuits.proofs.Feeding.{typed_later}
+use Rattle.circuits.proofs.Noted.{operands_of}
 use Rattle.circuits.proofs.Ordered.{below_noted}
 use Rattle.circuits.proofs.sums.below.Goals as goal
 

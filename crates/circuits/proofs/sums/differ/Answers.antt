@@ -1,5 +1,6 @@
 use Rattle.circuits.proofs.Nets.{grown_same, grown_from, grown_until}
-use Rattle.circuits.proofs.Noted.{typed_later, operands_of, known_differ, differ_noted, differ_after}
+use Rattle.circuits.proofs.Feeding.{typed_later}
+use Rattle.circuits.proofs.Noted.{operands_of, known_differ, differ_noted, differ_after}
 use Rattle.circuits.proofs.sums.differ.Goals as goal
 
 pub known_equal-requires : goal.known_equal-requires
