@@ -1,5 +1,5 @@
 -- The values of bits wherever a condition is met: of conjunctions by their parts, of orders by known ones.
-use Rattle.std.proofs.Common.{◌≡◌, ℕ, ◌+◌, ◌%◌, ◌^◌, ◌<◌, ◌≤◌, nat_lt, nat_eq, Bool, true, false, not, ◌&&◌, List, length, get_or, refl, sym, ◌∙◌, ap, subst, arith}
+use Rattle.std.proofs.Common.{◌≡◌, ℕ, ◌+◌, ◌%◌, ◌^◌, ◌<◌, ◌≤◌, nat_lt, nat_eq, Bool, true, false, not, ◌&&◌, ◌||◌, List, length, get_or, refl, sym, ◌∙◌, ap, subst, arith}
 use Rattle.std.proofs.Math.Bool.{beq}
 use Rattle.polynomials.specs.Values.{Same, value}
 use Rattle.polynomials.specs.declared.polynomial.Term.{Term}
@@ -10,11 +10,11 @@ use Rattle.circuits.specs.declared.inequalities.Known.{Known}
 use Rattle.circuits.specs.declared.orders.Order.{Order}
 use Rattle.circuits.specs.Net.{holds, opposite, IsIn, IsNet, Means}
 use Rattle.circuits.specs.Words.{unknown, IsOrderOf}
-use Rattle.circuits.specs.Facts.{Condition, IsAlike, IsAnswer, IsBoth, IsConjunction, IsZeroWhere}
+use Rattle.circuits.specs.Facts.{Condition, AllFollow, AreArms, IsAlike, IsAnswer, IsBoth, IsConjunction, IsZeroWhere}
 use Rattle.circuits.specs.Inequalities.{IsDifference, IsKnown, IsMoreBy, IsOrderWhere, IsOtherDifference, IsSameOrder}
 use Rattle.circuits.proofs.Congruence.{zero_same}
-use Rattle.circuits.proofs.Nets.{holds-opposite}
-use Rattle.circuits.proofs.FactLaws.{sign_known, zero_of}
+use Rattle.circuits.proofs.Nets.{holds-opposite, means_yes}
+use Rattle.circuits.proofs.FactLaws.{plain_sign, sign_known, zero_of}
 use Rattle.circuits.proofs.WordLaws.{truths}
 
 -- ---- bits that are alike
@@ -23,6 +23,27 @@ alike_itself b h = record { inside = h; is = λ v e. refl }
 
 pub alike_constant : {net : List NetNode} {here : Condition} {b c : Bit} {value_is : Bool} → IsAnswer net here b value_is → Means net c (λ v. value_is) → IsAlike net here b c
 alike_constant a m = record { inside = m.inside; is = λ v e. a.is v e ∙ sym (m.is v) }
+
+in_an_arm : {net : List NetNode} {b one other : Bit} {value_is : Bool} (here : Condition) (left right : Bit) (v : ℕ → Bool) (x y : Bool) → here v ≡ true → holds v net left ≡ x → holds v net right ≡ y
+    → (x || y) ≡ true → IsAlike net (λ u. here u && holds u net left) b one → IsAlike net (λ u. here u && holds u net right) b other → holds v net one ≡ value_is → holds v net other ≡ value_is
+    → holds v net b ≡ value_is
+in_an_arm {net} here left right v true y h el er e first second one other = first.is v (ap (λ k. k && holds v net left) h ∙ el) ∙ one
+in_an_arm {net} here left right v false true h el er e first second one other = second.is v (ap (λ k. k && holds v net right) h ∙ er) ∙ other
+in_an_arm {net} here left right v false false h el er e first second one other = cc
+
+plain_not : (t : Bool) → beq false t ≡ not t
+plain_not true = refl
+plain_not false = refl
+
+-- a bit that is the same constant in both arms
+pub answer_in_arms : {net : List NetNode} {here : Condition} {known : List Bit} (left right b one other : Bit) → IsNet net → AreArms net known left right → AllFollow net here known → one.node ≡ 0
+    → other ≡ one → IsAlike net (λ u. here u && holds u net left) b one → IsAlike net (λ u. here u && holds u net right) b other → IsAnswer net here b (not one.negated)
+answer_in_arms {net} {here} {known} left right b one other n arms f z e first second =
+    let constant : (v : ℕ → Bool) → holds v net one ≡ not one.negated = λ v. sign_known v net (record { node = 0; negated = false }) one true (sym z) ((means_yes net n).is v) ∙ plain_sign (beq false one.negated) ∙ plain_not one.negated in
+    record {
+      is = λ v h.
+          in_an_arm here left right v (holds v net left) (holds v net right) h refl refl (arms.is here f v h) first second (constant v) (ap (holds v net) e ∙ constant v);
+    }
 
 left_decides : (x y : Bool) → x ≡ false → (x && y) ≡ x
 left_decides false y e = refl

@@ -18,7 +18,7 @@ use Rattle.circuits.specs.declared.zeros.Zero.{Zero}
 use Rattle.circuits.specs.Net.{holds, opposite, IsIn, IsNet, Means}
 use Rattle.circuits.specs.Numbers.{digit, AreIn}
 use Rattle.circuits.specs.Words.{unknown, bits_of, AreWords, AreZeros, IsWord, IsZero, IsZeroOf}
-use Rattle.circuits.specs.Facts.{Condition, AllFollow, AreFacts, AreParted, IsAnswer, IsBoth, IsConjoined, IsDigit, IsEither, IsFact, IsLeftOut, IsRest, IsTruthFact, IsZeroWhere}
+use Rattle.circuits.specs.Facts.{Condition, AllFollow, AreArms, AreFacts, AreParted, IsAnswer, IsBoth, IsConjoined, IsDigit, IsEither, IsFact, IsLeftOut, IsRest, IsTruthFact, IsZeroWhere}
 use Rattle.circuits.proofs.Nodes.{and_arguments, and_swapped, means_found, found}
 use Rattle.circuits.proofs.Nets.{holds-opposite, means_by, means_yes, opp}
 use Rattle.circuits.proofs.Unknowns.{factor_of, found_word, place_within, product_one, unknown_odd}
@@ -139,11 +139,28 @@ left_out_of {net} {known} {b} {whole} {left} {right} {r} ew both inside er answe
       ∙ right_is_not (holds v net left) (holds v net right) (holds v net b) (sym (holds-opposite v net b) ∙ ap (holds v net) (sym ew) ∙ both.is v) k ((answers here f).is v h);
 }
 
+opposites : (x y b : Bool) → not b ≡ (x && y) → b ≡ true → (not x || not y) ≡ true
+opposites true y b e f = sym (ap not e) ∙ ap (λ k. not (not k)) f
+opposites false y b e f = refl
+
+-- the opposites of what is conjoined in a bit that isn't true
+pub arms_of : {net : List NetNode} {b whole left right l r : Bit} (known : List Bit) (at : ℕ) (d : Bit) → at < length known → b ≡ get_or known at d → whole ≡ opposite b → IsBoth net whole left right
+    → l ≡ opposite left → r ≡ opposite right → AreArms net known l r
+arms_of {net} {b} {whole} {left} {right} {l} {r} known at d lt eb ew both el er = record {
+  left_in = rw el both.left_in;
+  right_in = rw er both.right_in;
+  is = λ here f v h.
+      let true_here : holds v net b ≡ true = ap (holds v net) eb ∙ All-get_or (λ x. holds v net x ≡ true) known at d lt (f.is v h) in
+      ap (λ k. k || holds v net r) (ap (holds v net) el ∙ holds-opposite v net left)
+      ∙ ap (λ k. not (holds v net left) || k) (ap (holds v net) er ∙ holds-opposite v net right)
+      ∙ opposites (holds v net left) (holds v net right) (holds v net b) (sym (holds-opposite v net b) ∙ ap (holds v net) (sym ew) ∙ both.is v) true_here;
+}
+
 -- ---- answers
 pub at_some : {A : Type 0} (P : A → Type 0) (o : Option A) (x : A) → o ≡ Some x → IfSome o P → P x
 at_some {A} P o x e h = subst (λ (k : Option A). IfSome k P) e h
 
-plain_sign : (t : Bool) → beq true t ≡ t
+pub plain_sign : (t : Bool) → beq true t ≡ t
 plain_sign true = refl
 plain_sign false = refl
 

@@ -64,6 +64,12 @@ pub record IsLeftOut (net : List NetNode) (known : List Bit) (b r : Bit) : Type 
   pub inside : IsIn net r
   pub is : (here : Condition) → AllFollow net here known → (v : ℕ → Bool) → here v ≡ true → holds v net b ≡ true → holds v net r ≡ true
 
+-- two bits of which one at least is true wherever others follow
+pub record AreArms (net : List NetNode) (known : List Bit) (left right : Bit) : Type 0 where
+  pub left_in : IsIn net left
+  pub right_in : IsIn net right
+  pub is : (here : Condition) → AllFollow net here known → (v : ℕ → Bool) → here v ≡ true → (holds v net left || holds v net right) ≡ true
+
 -- a polynomial over words is another modulo 2^width wherever a condition is met
 pub record IsRest (net : List NetNode) (words : List (List Bit)) (here : Condition) (width : ℕ) (terms rest : List Term) : Type 0 where
   pub is : (v : ℕ → Bool) → here v ≡ true → Same width (value (unknown v net words) terms) (value (unknown v net words) rest)

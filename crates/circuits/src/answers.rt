@@ -10,7 +10,7 @@ use crate::facts::{facts_for, highest_truth};
 use crate::hints::Hints;
 use crate::inequalities::{Known, difference, is_more_by, known_orders};
 use crate::orders::Order;
-use crate::parts::{arguments, assumed, taken_apart, value_among};
+use crate::parts::{arguments, arms, assumed, taken_apart, value_among};
 use crate::{Bit, NetNode, not};
 use polynomials::{Polynomial, masked, reduce};
 use std::alloc::Global;
@@ -304,6 +304,47 @@ fn part_where(
     Ok(part_of(bit, left, right))
 }
 
+// the value that a bit has where either of two bits is true, of which one is wherever these bits are
+fn value_in_arms(
+    nodes: &[NetNode],
+    hints: &Hints,
+    known: &[Bit],
+    bit: Bit,
+    questions: &mut u32,
+) -> Result<Option<bool>, OutOfMemory>
+    requires net { IsNet nodes.now }
+    requires hints { AreTrue nodes.now hints.now }
+    requires bit_in { IsIn nodes.now bit }
+    ensures { IfOk result (λ r. IfSome r (λ value. (here : Condition) → AllFollow nodes.now here known.now
+        → IsAnswer nodes.now here bit value)) }
+{
+    let Some(arms) = arms(nodes, hints, known) else {
+        return Ok(None);
+    };
+    let first = assumed(hints.alloc, nodes, hints, known, arms.left)?;
+    let one = part_where(nodes, hints, &first, DEPTH, bit, questions)?;
+    if one.node != 0 {
+        return Ok(None);
+    }
+    let second = assumed(hints.alloc, nodes, hints, known, arms.right)?;
+    let other = part_where(nodes, hints, &second, DEPTH, bit, questions)?;
+    if other == one {
+        return Ok(Some(!one.negated));
+    }
+    Ok(None)
+}
+
+// what is known wherever a bit is true
+fn known_at(nodes: &[NetNode], hints: &Hints, live: Bit) -> Result<Vec<Bit>, OutOfMemory>
+    requires net { IsNet nodes.now }
+    requires live_in { IsIn nodes.now live }
+    ensures { IfOk result (λ r. AllFollow nodes.now (λ v. holds v nodes.now live) r.items) }
+{
+    let mut known = Vec::new(hints.alloc);
+    known.push(live)?;
+    taken_apart(nodes, hints, known, 0)
+}
+
 /// A bit that has the value of another wherever `live` is true: a constant or a part of it, where facts tell that.
 /// `questions` is how often facts may still be asked for it.
 pub fn simplified(
@@ -325,8 +366,13 @@ pub fn simplified(
     {
         return Ok(bit);
     }
-    let mut known = Vec::new(hints.alloc);
-    known.push(live)?;
-    let known = taken_apart(nodes, hints, known, 0)?;
-    part_where(nodes, hints, &known, DEPTH, bit, questions)
+    let known = known_at(nodes, hints, live)?;
+    let part = part_where(nodes, hints, &known, DEPTH, bit, questions)?;
+    if part.node == 0 {
+        return Ok(part);
+    }
+    match value_in_arms(nodes, hints, &known, bit, questions)? {
+        Some(value) => Ok(constant(value)),
+        None => Ok(part),
+    }
 }

@@ -2,7 +2,7 @@
 ghost use Rattle.std.specs.Prelude.{◌≡◌, ◌≤◌, ◌&&◌, IfOk, IfSome, List};
 ghost use Rattle.circuits.specs.declared.net.NetNode.{NetNode};
 ghost use Rattle.circuits.specs.Net.{holds, IsIn, IsNet};
-ghost use Rattle.circuits.specs.Facts.{Condition, AllFollow, AreParted, IsAnswer, IsBoth, IsConjoined, IsEither, IsLeftOut};
+ghost use Rattle.circuits.specs.Facts.{Condition, AllFollow, AreArms, AreParted, IsAnswer, IsBoth, IsConjoined, IsEither, IsLeftOut};
 
 use crate::hints::Hints;
 use crate::{Bit, NetNode, not};
@@ -151,6 +151,25 @@ pub fn assumed(
         all.push(other)?;
     }
     taken_apart(nodes, hints, all, from)
+}
+
+/// Two bits of which one at least is true where those are known: the opposites of what is conjoined in the first opposite
+/// of a conjunction that tells nothing of words.
+pub fn arms(nodes: &[NetNode], hints: &Hints, known: &[Bit]) -> Option<Pair>
+    requires { IsNet nodes.now }
+    ensures { IfSome result (λ p. AreArms nodes.now known.now p.left p.right) }
+{
+    for bit in known {
+        if bit.negated && !hints.is_test(bit.node) {
+            if let Some(pair) = arguments(nodes, not(*bit)) {
+                return Some(Pair {
+                    left: not(pair.left),
+                    right: not(pair.right),
+                });
+            }
+        }
+    }
+    None
 }
 
 // the bit that is the first of two pairs, whose others are opposite

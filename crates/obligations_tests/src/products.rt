@@ -9,7 +9,7 @@ use wv_base::OutOfMemory;
 use wv_schema::InvariantKind::{Location, Loop};
 
 /// The programs, each with its claims.
-pub const CASES: [Case; 3] = [
+pub const CASES: [Case; 6] = [
     Case {
         name: "equal and unequal products",
         source: "\
@@ -91,10 +91,97 @@ int main() {
             (Location, 11, "s == i * i && s != 16"),
         ],
     },
+    Case {
+        name: "quotients and remainders of both signs",
+        source: "\
+void reach_error() { }
+unsigned char __VERIFIER_nondet_uchar();
+int main() {
+  int a = (__VERIFIER_nondet_uchar() & 15) - 8;
+  int b = (__VERIFIER_nondet_uchar() & 15) - 8;
+  int r = a % b;
+  int q = a / b;
+  if (q * b + r != a || q * b - r == 6) {
+    reach_error();
+  }
+  unsigned int u = a;
+  if (b > 0 && u / b * b != u - u % b) {
+    reach_error();
+  }
+  return 100 / (q + r);
+}
+",
+        claims: &[
+            (Location, 8, "a == b * q + r && r * a >= 0"),
+            (Location, 12, "q != 3 || b * 3 == a - r"),
+        ],
+    },
+    Case {
+        name: "numbers between neighbours",
+        source: "\
+void reach_error() { }
+unsigned char __VERIFIER_nondet_uchar();
+int main() {
+  int n = (__VERIFIER_nondet_uchar() & 15) - 8;
+  int i = (__VERIFIER_nondet_uchar() & 15) - 8;
+  int s = 0;
+  if (i <= n && i >= n) {
+    s = i * n;
+  } else if (n < i && i <= n + 1) {
+    s = i * i - 2 * n - 1;
+  } else if (i < n && !(i < n - 1)) {
+    s = n * n - i - i - 1 + (i == 3);
+  } else {
+    s = i == n ? 1 : n * n;
+  }
+  unsigned int u = s;
+  if (s != n * n && !(u < 80 && u >= 40)) {
+    reach_error();
+  }
+  return s - n * n;
+}
+",
+        claims: &[
+            (Location, 16, "s == n * n"),
+            (Location, 17, "i != n || s == i * i"),
+        ],
+    },
+    Case {
+        name: "ways that come together",
+        source: "\
+void reach_error() { }
+unsigned char __VERIFIER_nondet_uchar();
+int main() {
+  int a = __VERIFIER_nondet_uchar() & 15;
+  int b = __VERIFIER_nondet_uchar() & 15;
+  int p = 1;
+  int q = 0;
+  if (a % 2 == 0 && b % 2 == 0) {
+    a = a / 2;
+    b = b / 2;
+    p = 4;
+  } else if (a % 2 == 1) {
+    a = a - 1;
+    q = b * p;
+  } else if (b == 7) {
+    b = b - 2;
+    q = a * p;
+  }
+  if (q + a * b * p == 21) {
+    reach_error();
+  }
+  return q;
+}
+",
+        claims: &[
+            (Location, 19, "q == 0 || q == b || q == a"),
+            (Location, 22, "a * b + q != 30"),
+        ],
+    },
 ];
 
 // Programs whose obligations are decided by words and facts alone.
-const SETTLED: [Case; 5] = [
+const SETTLED: [Case; 11] = [
     Case {
         name: "the same product twice",
         source: "\
@@ -188,6 +275,119 @@ int main() {
 }
 ",
         claims: &[(Loop, 8, "s == i * i && d == 2 * i + 1")],
+    },
+    Case {
+        name: "a quotient and its remainder",
+        source: "\
+void reach_error() { }
+int __VERIFIER_nondet_int();
+int main() {
+  int x = __VERIFIER_nondet_int();
+  int y = __VERIFIER_nondet_int();
+  int r = x % y;
+  if (x / y * y + r != x) {
+    reach_error();
+  }
+  return 0;
+}
+",
+        claims: &[],
+    },
+    Case {
+        name: "half of an even number",
+        source: "\
+void reach_error() { }
+unsigned int __VERIFIER_nondet_uint();
+int main() {
+  unsigned int x = __VERIFIER_nondet_uint();
+  unsigned int h = x / 2;
+  if (x % 2 == 0 && h * 2 * h != x * h) {
+    reach_error();
+  }
+  return 0;
+}
+",
+        claims: &[],
+    },
+    Case {
+        name: "neither of two numbers is less",
+        source: "\
+void reach_error() { }
+long __VERIFIER_nondet_long();
+int main() {
+  long i = __VERIFIER_nondet_long();
+  long n = __VERIFIER_nondet_long();
+  if (i < n || n < i) {
+    return 0;
+  }
+  if (i * n != n * n) {
+    reach_error();
+  }
+  return 0;
+}
+",
+        claims: &[],
+    },
+    Case {
+        name: "a number between neighbours",
+        source: "\
+void reach_error() { }
+int __VERIFIER_nondet_int();
+int main() {
+  int i = __VERIFIER_nondet_int();
+  int n = __VERIFIER_nondet_int();
+  if (n < i && i <= n + 1 && i * i != n * (n + 2) + 1) {
+    reach_error();
+  }
+  if (i < n && i >= n - 1 && i * i != n * (n - 2) + 1) {
+    reach_error();
+  }
+  return 0;
+}
+",
+        claims: &[],
+    },
+    Case {
+        name: "the order of equal numbers",
+        source: "\
+void reach_error() { }
+int __VERIFIER_nondet_int();
+int main() {
+  int x = __VERIFIER_nondet_int();
+  int y = __VERIFIER_nondet_int();
+  int z = __VERIFIER_nondet_int();
+  if (x != y * y || z >= x) {
+    return 0;
+  }
+  if (z >= y * y) {
+    reach_error();
+  }
+  return 0;
+}
+",
+        claims: &[],
+    },
+    Case {
+        name: "both ways of an if",
+        source: "\
+void reach_error() { }
+int __VERIFIER_nondet_int();
+int main() {
+  int y = __VERIFIER_nondet_int();
+  int d = __VERIFIER_nondet_int();
+  int x = 0;
+  if (d == 0) {
+    x = y * y;
+  } else {
+    x = y * y + d;
+  }
+  if (x != y * y + d) {
+    reach_error();
+  }
+  return 0;
+}
+",
+        claims: &[],
     },
 ];
 

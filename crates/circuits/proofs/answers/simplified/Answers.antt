@@ -1,13 +1,16 @@
-use Rattle.std.proofs.Common.{◌∙◌, ◌++◌, ◌∷◌, [], ap, subst, sym}
-use Rattle.std.proofs.lemmas.Result.{IfOk-weaker}
 use Rattle.circuits.specs.Net.{holds}
-use Rattle.circuits.specs.Facts.{AllFollow}
-use Rattle.circuits.proofs.FactLaws.{follow_own}
+use Rattle.circuits.specs.Facts.{Condition, AllFollow, IsAnswer}
+use Rattle.circuits.proofs.FactLaws.{at_some}
+use Rattle.circuits.proofs.AnswerLaws.{alike_constant}
 use Rattle.circuits.proofs.answers.simplified.Goals as goal
 
+pub returns-then-part-eq0 : goal.returns-then-part-eq0
+returns-then-part-eq0 c = c.in_ok-part.ensures (λ v. holds v c.args.nodes.now c.args.live) (rw c.deref.ensures.value c.in_ok-known.ensures)
+
+pub returns-in-Some : goal.returns-in-Some
+returns-in-Some c =
+    let answers = at_some (λ value. (h : Condition) → AllFollow c.args.nodes.now h c.deref-2.result.now → IsAnswer c.args.nodes.now h c.args.bit value) _ _ c.in-Some.is c.in_ok-value.ensures in
+    alike_constant (answers (λ v. holds v c.args.nodes.now c.args.live) (rw c.deref-2.ensures.value c.in_ok-known.ensures)) (c.constant.ensures c.args.nodes.now c.requires.net)
+
 pub returns : goal.returns
-returns c =
-    let net = c.args.nodes.now in
-    let own = subst (λ l. AllFollow net (λ v. holds v net c.args.live) l) (ap (λ l. l ++ c.args.live ∷ []) (sym c.new-known.ensures.items) ∙ sym c.in_ok-push.ensures.items) (follow_own net c.args.live c.requires.live_in) in
-    let known : AllFollow net (λ v. holds v net c.args.live) c.deref.result.now = rw c.deref.ensures.value (c.in_ok-known.ensures (λ v. holds v net c.args.live) own) in
-    IfOk-weaker c.part_where.result _ _ (λ r g. g (λ v. holds v net c.args.live) known) c.part_where.ensures
+returns c = c.in_ok-part.ensures (λ v. holds v c.args.nodes.now c.args.live) (rw c.deref.ensures.value c.in_ok-known.ensures)
