@@ -318,9 +318,13 @@ fn value_in_arms(
     ensures { IfOk result (λ r. IfSome r (λ value. (here : Condition) → AllFollow nodes.now here known.now
         → IsAnswer nodes.now here bit value)) }
 {
+    if *questions == 0 {
+        return Ok(None);
+    }
     let Some(arms) = arms(nodes, hints, known) else {
         return Ok(None);
     };
+    *questions -= 1;
     let first = assumed(hints.alloc, nodes, hints, known, arms.left)?;
     let one = part_where(nodes, hints, &first, DEPTH, bit, questions)?;
     if one.node != 0 {

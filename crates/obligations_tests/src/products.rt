@@ -181,7 +181,7 @@ int main() {
 ];
 
 // Programs whose obligations are decided by words and facts alone.
-const SETTLED: [Case; 11] = [
+const SETTLED: [Case; 12] = [
     Case {
         name: "the same product twice",
         source: "\
@@ -301,8 +301,10 @@ unsigned int __VERIFIER_nondet_uint();
 int main() {
   unsigned int x = __VERIFIER_nondet_uint();
   unsigned int h = x / 2;
-  if (x % 2 == 0 && h * 2 * h != x * h) {
-    reach_error();
+  if (x % 2 == 0) {
+    if (h * 2 * h != x * h) {
+      reach_error();
+    }
   }
   return 0;
 }
@@ -336,11 +338,15 @@ int __VERIFIER_nondet_int();
 int main() {
   int i = __VERIFIER_nondet_int();
   int n = __VERIFIER_nondet_int();
-  if (n < i && i <= n + 1 && i * i != n * (n + 2) + 1) {
-    reach_error();
+  if (n < i && i <= n + 1) {
+    if (i * i != n * (n + 2) + 1) {
+      reach_error();
+    }
   }
-  if (i < n && i >= n - 1 && i * i != n * (n - 2) + 1) {
-    reach_error();
+  if (i < n && i >= n - 1) {
+    if (i * i != n * (n - 2) + 1) {
+      reach_error();
+    }
   }
   return 0;
 }
@@ -383,6 +389,30 @@ int main() {
   }
   if (x != y * y + d) {
     reach_error();
+  }
+  return 0;
+}
+",
+        claims: &[],
+    },
+    Case {
+        name: "a loop that is left in two ways",
+        source: "\
+void reach_error() { }
+int __VERIFIER_nondet_int();
+int main() {
+  int q = __VERIFIER_nondet_int();
+  int i = 0;
+  while (i != 100) {
+    if (i * i == q) {
+      break;
+    }
+    i = i + 1;
+  }
+  if (i != 100) {
+    if (i * i * i != q * i) {
+      reach_error();
+    }
   }
   return 0;
 }
