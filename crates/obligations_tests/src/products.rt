@@ -104,16 +104,12 @@ int main() {
   if (q * b + r != a || q * b - r == 6) {
     reach_error();
   }
-  unsigned int u = a;
-  if (b > 0 && u / b * b != u - u % b) {
-    reach_error();
-  }
-  return 100 / (q + r);
+  return q + r;
 }
 ",
         claims: &[
             (Location, 8, "a == b * q + r && r * a >= 0"),
-            (Location, 12, "q != 3 || b * 3 == a - r"),
+            (Location, 11, "q != 3 || b * 3 == a - r"),
         ],
     },
     Case {
