@@ -364,10 +364,7 @@ pub fn simplified(
     requires bit_in { IsIn nodes.now bit }
     ensures { IfOk result (λ r. IsAlike nodes.now (λ v. holds v nodes.now live) bit r) }
 {
-    if live.node == 0
-        || bit.node == 0
-        || (hints.zeros.list.is_empty() && hints.orders.list.is_empty())
-    {
+    if bit.node == 0 || (hints.zeros.list.is_empty() && hints.orders.list.is_empty()) {
         return Ok(bit);
     }
     let known = known_at(nodes, hints, live)?;

@@ -9,7 +9,7 @@ use wv_base::OutOfMemory;
 use wv_schema::InvariantKind::{Location, Loop};
 
 /// The programs, each with its claims.
-pub const CASES: [Case; 6] = [
+pub const CASES: [Case; 3] = [
     Case {
         name: "equal and unequal products",
         source: "\
@@ -91,14 +91,18 @@ int main() {
             (Location, 11, "s == i * i && s != 16"),
         ],
     },
+];
+
+// Quotients, orders and ways that come together, whose nets are larger.
+const LARGER: [Case; 3] = [
     Case {
         name: "quotients and remainders of both signs",
         source: "\
 void reach_error() { }
 unsigned char __VERIFIER_nondet_uchar();
 int main() {
-  int a = (__VERIFIER_nondet_uchar() & 15) - 8;
-  int b = (__VERIFIER_nondet_uchar() & 15) - 8;
+  int a = (__VERIFIER_nondet_uchar() & 7) - 4;
+  int b = (__VERIFIER_nondet_uchar() & 7) - 4;
   int r = a % b;
   int q = a / b;
   if (q * b + r != a || q * b - r == 6) {
@@ -118,8 +122,8 @@ int main() {
 void reach_error() { }
 unsigned char __VERIFIER_nondet_uchar();
 int main() {
-  int n = (__VERIFIER_nondet_uchar() & 15) - 8;
-  int i = (__VERIFIER_nondet_uchar() & 15) - 8;
+  int n = (__VERIFIER_nondet_uchar() & 7) - 4;
+  int i = (__VERIFIER_nondet_uchar() & 7) - 4;
   int s = 0;
   if (i <= n && i >= n) {
     s = i * n;
@@ -148,8 +152,8 @@ int main() {
 void reach_error() { }
 unsigned char __VERIFIER_nondet_uchar();
 int main() {
-  int a = __VERIFIER_nondet_uchar() & 15;
-  int b = __VERIFIER_nondet_uchar() & 15;
+  int a = __VERIFIER_nondet_uchar() & 7;
+  int b = __VERIFIER_nondet_uchar() & 7;
   int p = 1;
   int q = 0;
   if (a % 2 == 0 && b % 2 == 0) {
@@ -159,11 +163,11 @@ int main() {
   } else if (a % 2 == 1) {
     a = a - 1;
     q = b * p;
-  } else if (b == 7) {
+  } else if (b == 5) {
     b = b - 2;
     q = a * p;
   }
-  if (q + a * b * p == 21) {
+  if (q + a * b * p == 15) {
     reach_error();
   }
   return q;
@@ -171,7 +175,7 @@ int main() {
 ",
         claims: &[
             (Location, 19, "q == 0 || q == b || q == a"),
-            (Location, 22, "a * b + q != 30"),
+            (Location, 22, "a * b + q != 20"),
         ],
     },
 ];
@@ -417,32 +421,48 @@ int main() {
     },
 ];
 
-// Under this many of all pairs of numbers below 16, the first two that are drawn, net and run differ.
-fn differing_of_four_bits(alloc: Global, judged: &Judged) -> Result<u64, OutOfMemory> {
+// Under this many of all pairs of numbers below a bound, the first two that are drawn, net and run differ.
+fn differing_below(alloc: Global, judged: &Judged, bound: u64) -> Result<u64, OutOfMemory> {
     let mut count: u64 = 0;
-    for pair in 0..256u64 {
-        let inputs = input_of(alloc, judged.all.sites.as_slice(), &[pair / 16, pair % 16])?;
-        if !is_alike_at(alloc, judged, &inputs)? {
-            count = count.saturating_add(1);
+    for a in 0..bound {
+        for b in 0..bound {
+            let inputs = input_of(alloc, judged.all.sites.as_slice(), &[a, b])?;
+            if !is_alike_at(alloc, judged, &inputs)? {
+                count = count.saturating_add(1);
+            }
         }
     }
     Ok(count)
+}
+
+fn differing(alloc: Global, case: &Case, property: Property, bound: u64) -> Result<u64, Fail> {
+    let judged = evaluate(alloc, case.source, case.claims, property, DataModel::Lp64).ok_or(
+        case.name,
+    )?;
+    Ok(differing_below(alloc, &judged, bound)?)
 }
 
 #[test]
 fn products_of_four_bits_are_told_alike(rt: HostRuntime) -> Result<(), Fail> {
     for case in &CASES {
         for property in [Property::UnreachCall, Property::NoOverflow] {
-            let judged = evaluate(
-                rt.alloc(),
-                case.source,
-                case.claims,
-                property,
-                DataModel::Lp64,
-            )
-            .ok_or(case.name)?;
             assert_eq!(rt;
-                differing_of_four_bits(rt.alloc(), &judged)?,
+                differing(rt.alloc(), case, property, 16)?,
+                0,
+                "{}",
+                case.name
+            );
+        }
+    }
+    Ok(())
+}
+
+#[test]
+fn quotients_of_three_bits_are_told_alike(rt: HostRuntime) -> Result<(), Fail> {
+    for case in &LARGER {
+        for property in [Property::UnreachCall, Property::NoOverflow] {
+            assert_eq!(rt;
+                differing(rt.alloc(), case, property, 8)?,
                 0,
                 "{}",
                 case.name
