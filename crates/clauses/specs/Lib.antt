@@ -1,4 +1,5 @@
 pub mod Clause
+pub mod Numbers
 pub mod Within
 pub mod Assignment
 pub mod Units

@@ -97,18 +97,17 @@ fn is_right(
     let Some(first) = clause_at(cnf, log, at, chain.start) else {
         return Ok(false);
     };
-    add(cells, &mut touched, first.numbers().as_slice())?;
+    add(cells, &mut touched, first.numbers())?;
     for step in chain.steps.as_slice() {
         let Some(clause) = clause_at(cnf, log, at, step.with) else {
             return Ok(false);
         };
-        let numbers = clause.numbers();
-        let resolved = resolve(cells, &mut touched, numbers.as_slice(), step.on)?;
+        let resolved = resolve(cells, &mut touched, clause.numbers(), step.on)?;
         if !resolved {
             return Ok(false);
         }
     }
-    let same = matches_clause(cells, touched.as_slice(), chain.gives.numbers().as_slice());
+    let same = matches_clause(cells, touched.as_slice(), chain.gives.numbers());
     Ok(same)
 }
 

@@ -27,7 +27,7 @@ pub struct Cnf {
 fn is_of(variables: u32, clause: &Clause) -> bool
     ensures { IsTrue result ↔ All (IsOf variables) clause.now }
 {
-    for x in clause.numbers().as_slice() {
+    for x in clause.numbers() {
         if x.unsigned_abs() > variables {
             return false;
         }
@@ -62,43 +62,31 @@ impl Cnf {
 }
 
 // the clause of v and of the opposites of a and b
-fn third(alloc: Global, v: u32, a: i32, b: i32) -> Result<Clause, OutOfMemory>
+fn third(v: u32, a: i32, b: i32) -> Clause
     requires { CanJoin v a b }
-    ensures { IfOk result (λ c. c ≡ rising_two (neg_ℤ a) (neg_ℤ b) ++ pos v ∷ []) }
+    ensures { result ≡ rising_two (neg_ℤ a) (neg_ℤ b) ++ pos v ∷ [] }
 {
     let last = number(false, v);
     if -a < -b {
-        let clause = three(alloc, -a, -b, last)?;
-        return Ok(clause);
+        return three(-a, -b, last);
     }
-    let clause = three(alloc, -b, -a, last)?;
-    Ok(clause)
+    three(-b, -a, last)
 }
 
 // the clauses of the conjunction v of a and b
-fn push_gate(
-    alloc: Global,
-    clauses: &mut Seq<Clause>,
-    v: u32,
-    a: i32,
-    b: i32,
-) -> Result<(), OutOfMemory>
+fn push_gate(clauses: &mut Seq<Clause>, v: u32, a: i32, b: i32) -> Result<(), OutOfMemory>
     requires { CanJoin v a b }
     ensures { OnOk result (clauses.new ≡ clauses.old ++ gate_clauses v a b) }
 {
     let opposite = number(true, v);
-    let left = two(alloc, opposite, a)?;
-    let right = two(alloc, opposite, b)?;
-    let both = third(alloc, v, a, b)?;
-    clauses.push(left)?;
-    clauses.push(right)?;
-    clauses.push(both)?;
+    clauses.push(two(opposite, a))?;
+    clauses.push(two(opposite, b))?;
+    clauses.push(third(v, a, b))?;
     Ok(())
 }
 
 // the clauses of a node
 fn push_node(
-    alloc: Global,
     clauses: &mut Seq<Clause>,
     net: &Net,
     flags: &[bool],
@@ -115,15 +103,14 @@ fn push_node(
     let _ = net.nodes();
     match net.node(at as u32) {
         NetNode::Constant(c) => {
-            let clause = one(alloc, number(!c, numbers[at]))?;
-            clauses.push(clause)?;
+            clauses.push(one(number(!c, numbers[at])))?;
         }
         NetNode::Input(_) => {}
         NetNode::And(a, b) => {
             if flags[at] {
                 let left = number(a.negated, numbers[a.node as usize]);
                 let right = number(b.negated, numbers[b.node as usize]);
-                push_gate(alloc, clauses, numbers[at], left, right)?;
+                push_gate(clauses, numbers[at], left, right)?;
             }
         }
     }
@@ -145,7 +132,7 @@ fn listed(
 {
     let mut clauses = Seq::new(alloc);
     for at in 0..flags.len() {
-        push_node(alloc, &mut clauses, net, flags, numbers, at)?;
+        push_node(&mut clauses, net, flags, numbers, at)?;
     }
     Ok(clauses)
 }
@@ -165,11 +152,8 @@ pub fn cnf_of(alloc: Global, net: &Net, bit: Bit) -> Result<Cnf, OutOfMemory>
     let flags = reached(alloc, net, bit)?;
     let numbered = number_nodes(alloc, net, &flags)?;
     let mut clauses = listed(alloc, net, &flags, &numbered.numbers)?;
-    let last = one(
-        alloc,
-        number(bit.negated, numbered.numbers[bit.node as usize]),
-    )?;
-    clauses.push(last)?;
+    let last = number(bit.negated, numbered.numbers[bit.node as usize]);
+    clauses.push(one(last))?;
     Ok(Cnf {
         variables: numbered.variables,
         clauses,

@@ -8,7 +8,7 @@ use wv_base::OutOfMemory;
 fn numbers_of(alloc: Global, cnf: &Cnf) -> Result<Vec<i32>, OutOfMemory> {
     let mut out = Vec::new(alloc);
     for clause in cnf.clauses.as_slice() {
-        for number in clause.numbers().as_slice() {
+        for number in clause.numbers() {
             out.push(*number)?;
         }
         out.push(0)?;

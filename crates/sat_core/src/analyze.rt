@@ -37,7 +37,7 @@ pub fn mark(seen: &mut [bool], clause: &Clause)
     requires { AreNumbersOf (length seen.old) (clause.now ∷ []) }
     ensures { AreMarked seen.old clause.now seen.new }
 {
-    for number in clause.numbers().as_slice() {
+    for number in clause.numbers() {
         seen[number.unsigned_abs() as usize] = true;
     }
 }

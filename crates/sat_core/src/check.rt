@@ -26,7 +26,7 @@ fn is_true(values: &[bool], number: i32) -> bool
 fn satisfies(values: &[bool], clause: &Clause) -> bool
     ensures { IsTrue result → clause_holds (value_at values.now) clause.now ≡ true }
 {
-    for number in clause.numbers().as_slice() {
+    for number in clause.numbers() {
         if is_true(values, *number) {
             return true;
         }

@@ -25,7 +25,7 @@ pub fn look(trail: &Trail, clause: &Clause) -> ClauseState
     ensures { IsStateOf trail.now.entries.items clause.now result }
 {
     let mut open = None;
-    for number in clause.numbers().as_slice() {
+    for number in clause.numbers() {
         match trail.value(*number) {
             Some(true) => return ClauseState::Other,
             Some(false) => {}

@@ -20,7 +20,7 @@ fn last_number(table: &[u8], clause: &Clause) -> Option<i32>
     ensures { IfSome result (λ x. IsLast table.now clause.now x) }
 {
     let mut last = None;
-    for number in clause.numbers().as_slice() {
+    for number in clause.numbers() {
         if at(table, opposite_code(*number)) < 2 {
             match last {
                 Some(_) => return None,

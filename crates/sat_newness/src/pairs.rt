@@ -44,7 +44,7 @@ fn find_pair(table: &[u8], clause: &Clause) -> Option<Pair>
     ensures { IfSome result (λ p. IsFound table.now clause.now p) }
 {
     let mut open = None;
-    for number in clause.numbers().as_slice() {
+    for number in clause.numbers() {
         let other = code(*number);
         match open {
             None => {

@@ -78,7 +78,7 @@ impl Arena {
 
     /// A given clause.
     pub fn push_given(&mut self, clause: &Clause) -> Result<u32, OutOfMemory> {
-        let numbers = clause.numbers().as_slice();
+        let numbers = clause.numbers();
         for number in numbers {
             self.literals.push(Lit::of_number(*number))?;
         }

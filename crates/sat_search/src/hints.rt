@@ -106,7 +106,7 @@ impl Hints {
 
     // makes the opposites of a clause's numbers true, but for one
     fn deny(&mut self, clause: &Clause, number: i32) -> Result<(), OutOfMemory> {
-        for other in clause.numbers().as_slice() {
+        for other in clause.numbers() {
             let literal = Lit::of_number(*other).opposite();
             if *other != number && matches!(self.search.values.value(literal), Value::Open) {
                 self.search.values.decide(literal)?;

@@ -86,7 +86,7 @@ impl Search {
 
     // puts the variables of a clause into the order: those that no clause has are never decided
     fn order_variables(&mut self, clause: &Clause) -> Result<(), OutOfMemory> {
-        for number in clause.numbers().as_slice() {
+        for number in clause.numbers() {
             self.order.insert(number.unsigned_abs())?;
         }
         Ok(())

@@ -40,8 +40,7 @@ fn add_clause(out: &mut String, clause: &Clause) -> Result<(), OutOfMemory>
     ensures text { OnOk result (string_bytes out.new ≡ string_bytes out.old ++ clause_text clause.now) }
     ensures fine { IsClause clause.now }
 {
-    let numbers = clause.numbers();
-    for number in numbers.as_slice() {
+    for number in clause.numbers() {
         add_number(out, *number)?;
     }
     out.push_str("\n")?;

@@ -18,8 +18,7 @@ fn add_number(out: &mut String, number: i32) -> Result<(), OutOfMemory>
 pub fn add_numbers(out: &mut String, clause: &Clause) -> Result<(), OutOfMemory>
     ensures { OnOk result (string_bytes out.new ≡ string_bytes out.old ++ flat_map number_text clause.now) }
 {
-    let numbers = clause.numbers();
-    for number in numbers.as_slice() {
+    for number in clause.numbers() {
         add_number(out, *number)?;
     }
     Ok(())

@@ -25,5 +25,5 @@ returns c =
     let a = passed c.args.a (omega (arith, r.left.1, r.small)) in
     let b = passed c.args.b (omega (arith, r.right.1, r.small)) in
     gate_pushed _ c.args.v c.args.a c.args.b c.in_ok-push.ensures.ok c.in_ok-push-2.ensures.ok c.in_ok-push-3.ensures.ok
-    (c.in_ok-left.ensures ∙ pair_same v a) (c.in_ok-right.ensures ∙ pair_same v b)
-    (c.in_ok-both.ensures ∙ ap (λ x. rising_two (neg_ℤ x) (neg_ℤ (to_z w32 (of_z w32 c.args.b))) ++ pos c.args.v ∷ []) a ∙ ap (λ x. rising_two (neg_ℤ c.args.a) (neg_ℤ x) ++ pos c.args.v ∷ []) b)
+    (c.two.ensures ∙ pair_same v a) (c.two-2.ensures ∙ pair_same v b)
+    (c.third.ensures ∙ ap (λ x. rising_two (neg_ℤ x) (neg_ℤ (to_z w32 (of_z w32 c.args.b))) ++ pos c.args.v ∷ []) a ∙ ap (λ x. rising_two (neg_ℤ c.args.a) (neg_ℤ x) ++ pos c.args.v ∷ []) b)

@@ -53,7 +53,7 @@ push_gate-requires c =
 pub returns-in_ok-push-in-Constant : goal.returns-in_ok-push-in-Constant
 returns-in_ok-push-in-Constant c =
     let r = c.requires in
-    constant_pushed _ c.args.flags.now c.args.net.now c.args.at c.in-Constant.c _ (told _ c.args.at _ c.node.ensures c.in-Constant.is) c.in_ok-push-in-Constant.ensures.ok c.in_ok-clause-in-Constant.ensures
+    constant_pushed _ c.args.flags.now c.args.net.now c.args.at c.in-Constant.c _ (told _ c.args.at _ c.node.ensures c.in-Constant.is) c.in_ok-push-in-Constant.ensures.ok c.one.ensures
     (literal_passed c.args.flags.now c.args.net.now c.nodes.ensures.fine r.room r.numbered c.args.at r.within (not c.in-Constant.c) _ refl c.number.ensures)
 
 pub returns-in-Input : goal.returns-in-Input

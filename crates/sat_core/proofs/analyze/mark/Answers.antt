@@ -8,9 +8,9 @@ use Rattle.sat_core.proofs.analyze.mark.Goals as goal
 
 pub bounds-seen-unsigned_abs : goal.bounds-seen-unsigned_abs
 bounds-seen-unsigned_abs c =
-    let items = c.as_slice-number-items.result.now in
+    let items = c.numbers-number-items.result.now in
     let n = c.loop-number.number-index in
-    let same : items ≡ c.args.clause.now = c.as_slice-number-items.ensures ∙ c.numbers.ensures.same in
+    let same : items ≡ c.args.clause.now = c.numbers-number-items.ensures.same in
     let y = slice_index_or items n (pos 0) in
     let o = c.requires.each c.args.clause.now y (cons_here c.args.clause.now []) (contains_at _ n y (item_at c.args.clause.now items n same (c.loop-number-test.true))) in
     let is : c.unsigned_abs.result ≡ unsigned_abs y = c.unsigned_abs.ensures.value ∙ ap unsigned_abs (to_z-of_z w32 y (fits_signed_from_abs w32 y o.small)) in
@@ -20,9 +20,9 @@ bounds-seen-unsigned_abs c =
 
 pub loop-number-preserved : goal.loop-number-preserved
 loop-number-preserved c =
-    let items = c.as_slice-number-items.result.now in
+    let items = c.numbers-number-items.result.now in
     let n = c.loop-number.number-index in
-    let same : items ≡ c.args.clause.now = c.as_slice-number-items.ensures ∙ c.numbers.ensures.same in
+    let same : items ≡ c.args.clause.now = c.numbers-number-items.ensures.same in
     let y = slice_index_or items n (pos 0) in
     let at : slice_get c.args.clause.now n ≡ Some y = item_at c.args.clause.now items n same (c.loop-number-test.true) in
     let o = c.requires.each c.args.clause.now y (cons_here c.args.clause.now []) (contains_at _ n y at) in
@@ -34,5 +34,5 @@ loop-number-preserved c =
 
 pub returns : goal.returns
 returns c =
-    let same : c.as_slice-number-items.result.now ≡ c.args.clause.now = c.as_slice-number-items.ensures ∙ c.numbers.ensures.same in
+    let same : c.numbers-number-items.result.now ≡ c.args.clause.now = c.numbers-number-items.ensures.same in
     marked_all c.args.seen.now c.args.clause.now c.loop-number.number-index c.loop-number.seen (omega (arith, ap length same, c.loop-number-test.false)) c.loop-number.invariant

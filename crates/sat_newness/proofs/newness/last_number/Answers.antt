@@ -15,12 +15,12 @@ loop-number-init c = left_none _ _
 pub loop-number-preserved : goal.loop-number-preserved
 loop-number-preserved c =
     let table = c.args.table.now in
-    let items = c.as_slice-number-items.result.now in
+    let items = c.numbers-number-items.result.now in
     let n = c.loop-number.number-index in
-    let same : items ≡ c.args.clause.now = c.as_slice-number-items.ensures ∙ c.numbers.ensures.same in
+    let same : items ≡ c.args.clause.now = c.numbers-number-items.ensures.same in
     let y = slice_index_or items n (pos 0) in
     let at : slice_get c.args.clause.now n ≡ Some y = item_at c.args.clause.now items n same c.loop-number-test.true in
-    let real : IsNumber y = All-contains IsNumber c.args.clause.now y c.numbers.ensures.fine.real (contains_at c.args.clause.now n y at) in
+    let real : IsNumber y = All-contains IsNumber c.args.clause.now y c.numbers-number-items.ensures.fine.real (contains_at c.args.clause.now n y at) in
     let f : FitsSigned w32 y = fits_signed_from_abs w32 y real.1 in
     elim c.if-at-lt2.branch [
       | then-at-lt2+in-None+else-at-ge2 w ↦
@@ -35,5 +35,5 @@ loop-number-preserved c =
 
 pub returns : goal.returns
 returns c =
-    let same : c.as_slice-number-items.result.now ≡ c.args.clause.now = c.as_slice-number-items.ensures ∙ c.numbers.ensures.same in
+    let same : c.numbers-number-items.result.now ≡ c.args.clause.now = c.numbers-number-items.ensures.same in
     left_result c.args.table.now c.args.clause.now c.loop-number.number-index c.loop-number.last (omega (arith, ap length same)) c.loop-number.invariant

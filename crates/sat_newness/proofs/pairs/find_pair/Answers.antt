@@ -11,12 +11,12 @@ use Rattle.sat_newness.proofs.pairs.find_pair.Goals as goal
 
 pub returns-then-settles : goal.returns-then-settles
 returns-then-settles c =
-    let items = c.as_slice-number-items.result.now in
+    let items = c.numbers-number-items.result.now in
     let n = c.loop-number.number-index in
-    let same : items ≡ c.args.clause.now = c.as_slice-number-items.ensures ∙ c.numbers.ensures.same in
+    let same : items ≡ c.args.clause.now = c.numbers-number-items.ensures.same in
     let y = slice_index_or items n (pos 0) in
     let at : slice_get c.args.clause.now n ≡ Some y = item_at c.args.clause.now items n same (omega arith) in
-    let real : IsNumber y = All-contains IsNumber c.args.clause.now y c.numbers.ensures.fine.real (contains_at c.args.clause.now n y at) in
+    let real : IsNumber y = All-contains IsNumber c.args.clause.now y c.numbers-number-items.ensures.fine.real (contains_at c.args.clause.now n y at) in
     let f : FitsSigned w32 y = fits_signed_from_abs w32 y real.1 in
     let is : code y ≡ c.code-other.result = sym (c.code-other.ensures ∙ ap code (to_z-of_z w32 y f)) in
     let other : HoldsAt c.args.clause.now c.code-other.result = record { number = y; held = contains_at c.args.clause.now n y at; is = is } in
