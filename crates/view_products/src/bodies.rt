@@ -153,10 +153,7 @@ fn push_arms(list: &mut Vec<Spot>, arms: &[Arm]) -> Result<(), OutOfMemory>
     Ok(())
 }
 
-fn push_functions(
-    list: &mut Vec<Spot>,
-    functions: &[Function],
-) -> Result<(), OutOfMemory>
+fn push_functions(list: &mut Vec<Spot>, functions: &[Function]) -> Result<(), OutOfMemory>
     ensures { OnOk result (list.new.items
         ≡ list.old.items ++ each_in_functions products_in (functions_view functions.now)) }
 {
