@@ -163,7 +163,7 @@ fn push_functions(list: &mut Vec<Spot>, functions: &[Function]) -> Result<(), Ou
     Ok(())
 }
 
-/// The places of the products, quotients and remainders of two values that aren't constants, in the bodies of a program.
+/// The places of products, quotients and remainders of two values that aren't constants, in the bodies of a program.
 pub fn products(alloc: Global, program: &Program) -> Result<Vec<Spot>, OutOfMemory>
     ensures { IfOk result (λ list. list.items ≡ products_of_program (program_view program.now)) }
 {

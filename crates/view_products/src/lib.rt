@@ -1,4 +1,4 @@
-//! What makes obligations hard: the products, quotients and remainders of two values that aren't constants, in a program
+//! What makes obligations hard: products, quotients and remainders of two values that aren't constants, in a program
 //! and in its invariants. Its one promise: each of them is listed, by its place, and nothing else.
 #![tactic(auto)]
 
