@@ -5,10 +5,12 @@
 mod obligations;
 mod seeking;
 mod shell;
+mod undecided;
 mod verdict;
 mod violation;
 mod weeding;
 
 pub use obligations::note_obligation;
+pub use undecided::Size;
 pub use verdict::{explain_verdict, show_obligations};
 pub use violation::explain_sequence;

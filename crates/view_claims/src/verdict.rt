@@ -1,5 +1,6 @@
 // What becomes of the obligations of invariant sets: one fails, the budget is spent on one, or all hold.
-use crate::obligations::{explain_failed, note_invariant, obligation_text};
+use crate::obligations::{explain_failed, obligation_text};
+use crate::undecided::{Size, Spent, explain_spent};
 use c_core::Program;
 use c_duties::duties;
 use c_meaning::{Cause, Duty, DutyKind, PlacedInvariant, Verdict};
@@ -39,30 +40,7 @@ pub fn show_obligations(
     Ok(())
 }
 
-/// An obligation on which the budget was spent.
-fn explain_conflicts(
-    alloc: Global,
-    files: &Files<'_>,
-    program: &Program,
-    witness: &Witness,
-    invariants: &Seq<PlacedInvariant>,
-    index: u32,
-    count: u64,
-    out: &mut Messages,
-) -> Result<(), OutOfMemory> {
-    let list = duties(alloc, program, invariants)?;
-    let Some(duty) = list.get((index as usize).saturating_sub(1)) else {
-        return Ok(());
-    };
-    let why = format!(in alloc;
-        "the budget is spent on it (conflicts: {count}); a larger --conflicts, or an invariant that says more of what it needs, may decide"
-    )?;
-    let told = obligation_text(alloc, witness, index, *duty, why.as_str())?;
-    out.warning("undecided", File::Program, Some(duty.spot), told)?;
-    note_invariant(alloc, files, witness, *duty, out)
-}
-
-/// What there is to say of a verdict on invariant sets.
+/// What there is to say of a verdict on invariant sets, and of the question on which the budget was spent.
 pub fn explain_verdict(
     alloc: Global,
     files: &Files<'_>,
@@ -70,6 +48,7 @@ pub fn explain_verdict(
     witness: &Witness,
     invariants: &Seq<PlacedInvariant>,
     verdict: &Verdict,
+    size: Option<Size>,
     out: &mut Messages,
 ) -> Result<(), OutOfMemory> {
     match verdict {
@@ -77,9 +56,14 @@ pub fn explain_verdict(
             let draws = draws.as_slice();
             explain_failed(alloc, files, program, witness, *index, *duty, draws, out)
         }
-        Verdict::Undecided(Cause::Conflicts { index, count }) => explain_conflicts(
-            alloc, files, program, witness, invariants, *index, *count, out,
-        ),
+        Verdict::Undecided(Cause::Conflicts { index, count }) => {
+            let spent = Spent {
+                index: *index,
+                conflicts: *count,
+                size,
+            };
+            explain_spent(alloc, files, program, witness, invariants, spent, out)
+        }
         Verdict::CorrectnessConfirmed { .. } => {
             let list = duties(alloc, program, invariants)?;
             show_obligations(alloc, witness, list.as_slice(), &[], out)

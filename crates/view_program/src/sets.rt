@@ -7,10 +7,11 @@ ghost use Rattle.c_meaning.specs.Placing.{IsInvariant, placed_view};
 use c_core::Program;
 use c_meaning::PlacedInvariant;
 use judge_correctness::judge_correctness;
+use judge_obligations::Judged;
 use std::alloc::Global;
 use sym_duties::SymFault;
 use view_binding::explain_unbound_invariant;
-use view_claims::explain_verdict;
+use view_claims::{Size, explain_verdict};
 use view_grammar::{explain_recursion, explain_weight};
 use view_text::{Files, Messages};
 use way_invariants::bind_correctness;
@@ -32,6 +33,17 @@ fn explain_fault(
     }
 }
 
+/// How big the question is on which the budget was spent.
+fn size_of(judged: &Judged) -> Option<Size> {
+    match &judged.spent {
+        Some(spent) => Some(Size {
+            variables: spent.clauses.variables,
+            clauses: spent.clauses.clauses.len(),
+        }),
+        None => None,
+    }
+}
+
 fn explain_placed(
     alloc: Global,
     files: &Files<'_>,
@@ -48,7 +60,10 @@ fn explain_placed(
     match judge_correctness(alloc, program, invariants, conflicts) {
         Ok(judged) => {
             let verdict = &judged.verdict;
-            explain_verdict(alloc, files, program, witness, invariants, verdict, out)
+            let size = size_of(&judged);
+            explain_verdict(
+                alloc, files, program, witness, invariants, verdict, size, out,
+            )
         }
         Err(fault) => explain_fault(alloc, files, program, &fault, out),
     }
