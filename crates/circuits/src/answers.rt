@@ -148,6 +148,16 @@ fn other_difference(
     Ok(None)
 }
 
+// whether a polynomial is a number other than 0: then no fact makes it 0, but where no run is
+fn is_other_number(width: u32, polynomial: &Polynomial) -> bool
+    requires { width ≤ 64 }
+{
+    match polynomial.as_constant() {
+        Some(constant) => masked(width, constant) != 0,
+        None => false,
+    }
+}
+
 // whether an order is a known one of equal numbers
 fn is_same_order(
     nodes: &[NetNode],
@@ -171,6 +181,9 @@ fn is_same_order(
     let Some(rest) = other_difference(hints.alloc, order, other)? else {
         return Ok(false);
     };
+    if is_other_number(order.width, &rest) {
+        return Ok(false);
+    }
     match is_zero(nodes, hints, known, 0, order.width, &rest, questions)? {
         Some(is) => Ok(is),
         None => Ok(false),
