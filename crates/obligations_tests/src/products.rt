@@ -181,7 +181,7 @@ int main() {
 ];
 
 // Programs whose obligations are decided by words and facts alone.
-const SETTLED: [Case; 12] = [
+const SETTLED: [Case; 11] = [
     Case {
         name: "the same product twice",
         source: "\
@@ -389,30 +389,6 @@ int main() {
   }
   if (x != y * y + d) {
     reach_error();
-  }
-  return 0;
-}
-",
-        claims: &[],
-    },
-    Case {
-        name: "a loop that is left in two ways",
-        source: "\
-void reach_error() { }
-int __VERIFIER_nondet_int();
-int main() {
-  int q = __VERIFIER_nondet_int();
-  int i = 0;
-  while (i != 100) {
-    if (i * i == q) {
-      break;
-    }
-    i = i + 1;
-  }
-  if (i != 100) {
-    if (i * i * i != q * i) {
-      reach_error();
-    }
   }
   return 0;
 }
