@@ -1,6 +1,6 @@
 -- Copies of nodes, and of what is added after them.
-use Rattle.std.proofs.Common.{◌≡◌, ℕ, ◌+◌, ◌<◌, ◌≤◌, Bool, true, false, not, ◌&&◌, List, [], ◌∷◌, ◌++◌, length, get_or, take, refl, sym, ◌∙◌, ap, subst, arith, length-append, Some, inl, inr}
-use Rattle.std.specs.Prelude.{slice_get}
+use Rattle.std.proofs.Common.{◌≡◌, ℕ, ◌+◌, ◌<◌, ◌≤◌, Bool, true, false, not, ◌&&◌, List, [], ◌∷◌, ◌++◌, length, get_or, take, drop, refl, sym, ◌∙◌, ap, subst, arith, length-append, Some, inl, inr}
+use Rattle.std.specs.Prelude.{slice_get, Result, Ok, Err, IfOk, OnOk}
 use Rattle.std.specs.List.{All}
 use Rattle.std.proofs.lemmas.Bool.{cases_lt, cases_eq}
 use Rattle.std.proofs.lemmas.List.{take_more, length-take-le, take-append-drop, get_or_append_left, get_or_push, length_push, get_or-set_same, get_or-set_other, length-set}
@@ -84,6 +84,12 @@ module _ (old : List NetNode) (f : FoldedNet) (h : IsNet old) (follows : Follows
       let n = found old (length f.copies.items) (Constant c) (Constant true) e in
       subst (λ x. IsFine (length f.copies.items) (count_inputs (take (length f.copies.items) old)) x) n.1 (node_fine old h (length f.copies.items) follows.some n.0)
 
+  pub and_copied : (a b : Bit) → Some (And a b) ≡ slice_get old (length f.copies.items) → (a.node < length f.copies.items) × (b.node < length f.copies.items)
+  and_copied a b e =
+      let n = found old (length f.copies.items) (And a b) (Constant true) e in
+      let r = and_arguments old h (length f.copies.items) a b n.0 n.1 in
+      (r.left.1, r.right.1)
+
   pub next_input : (g : FoldedNet) (copy : Bit) (k : ℕ) → Some (Input k) ≡ slice_get old (length f.copies.items) → g.net ≡ f.net ++ Input (count_inputs f.net) ∷ [] → Means g.net copy (λ v. v (count_inputs f.net))
       → SameBut f g → IsNextOf old f g copy
   unfolding count_inputs
@@ -129,11 +135,11 @@ follows_more old f g k copy h next lt en ec ea = record {
   copied = λ at d l. elim (cases_lt at (length f.copies.items)) as (λ _. IsCopy old k.net at (get_or k.copies.items at d)) [
     | inl less ↦
         subst (IsCopy old k.net at) (sym (ap (λ x. get_or x at d) copies ∙ get_or_append_left f.copies.items (copy ∷ []) d at less))
-          (subst (λ x. IsCopy old x at (get_or f.copies.items at d)) (sym net) (means_longer f.net next.more (get_or f.copies.items at d) (λ v. node_holds v old at) (h.copied at d less)))
+        (subst (λ x. IsCopy old x at (get_or f.copies.items at d)) (sym net) (means_longer f.net next.more (get_or f.copies.items at d) (λ v. node_holds v old at) (h.copied at d less)))
     | inr ge ↦
         let e : at ≡ length f.copies.items = omega (arith, ge, l, longer) in
         subst (IsCopy old k.net at) (sym (ap (λ x. get_or x at d) copies ∙ get_or_push f.copies.items copy d at (sym e)))
-          (subst (λ (i : ℕ). IsCopy old k.net i copy) (sym e) (subst (λ x. IsCopy old x (length f.copies.items) copy) (sym en) next.copied))
+        (subst (λ (i : ℕ). IsCopy old k.net i copy) (sym e) (subst (λ x. IsCopy old x (length f.copies.items) copy) (sym en) next.copied))
   ];
   apart = subst (All (AreApart k.net)) (sym (ea ∙ ap (λ x. x.items) next.same.apart)) (λ i d l. subst (λ x. AreApart x (get_or f.apart.items i d)) (sym net) (apart_longer f.net next.more (get_or f.apart.items i d) (h.apart i d l)));
 }
@@ -181,12 +187,12 @@ follows_never old f g k bit copy h fine but lt never e en ec ea = record {
   small = omega (arith, same, ap length net, h.small);
   inputs = ap count_inputs net ∙ h.inputs ∙ sym (ap (λ i. count_inputs (take i old)) same);
   copied = λ at d l. subst (λ x. IsCopy old x at (get_or k.copies.items at d)) (sym net) (subst (λ x. IsCopy old f.net at (get_or x at d)) (sym copies)
-    (elim (cases_eq at bit.node) as (λ _. IsCopy old f.net at (get_or (set f.copies.items bit.node copy) at d)) [
-      | inl here ↦
-          subst (IsCopy old f.net at) (sym (ap (λ (i : ℕ). get_or (set f.copies.items i copy) at d) (sym here) ∙ get_or-set_same f.copies.items at copy d (omega (arith, here, lt))))
+      (elim (cases_eq at bit.node) as (λ _. IsCopy old f.net at (get_or (set f.copies.items bit.node copy) at d)) [
+        | inl here ↦
+            subst (IsCopy old f.net at) (sym (ap (λ (i : ℕ). get_or (set f.copies.items i copy) at d) (sym here) ∙ get_or-set_same f.copies.items at copy d (omega (arith, here, lt))))
             (subst (λ (i : ℕ). IsCopy old f.net i copy) (sym here) (subst (IsCopy old f.net bit.node) (sym e) (constant_copy old f.net bit.node bit.negated fine never)))
-      | inr other ↦ subst (IsCopy old f.net at) (sym (get_or-set_other f.copies.items bit.node at copy d other)) (h.copied at d (omega (arith, l, same)))
-    ]));
+        | inr other ↦ subst (IsCopy old f.net at) (sym (get_or-set_other f.copies.items bit.node at copy d other)) (h.copied at d (omega (arith, l, same)))
+      ]));
   apart = subst (All (AreApart k.net)) (sym ea) (subst (λ x. All (AreApart x) g.apart.items) (sym en) but.apart);
 }
   where
@@ -198,3 +204,12 @@ follows_never old f g k bit copy h fine but lt never e en ec ea = record {
 
     same : length k.copies.items ≡ length f.copies.items
     same = ap length copies ∙ length-set f.copies.items bit.node copy
+
+-- ---- results
+pub ok_with : {A E : Type 0} (r : Result A E) (G : Type 0) (P R : A → Type 0) → OnOk r G → IfOk r P → (G → (a : A) → P a → R a) → IfOk r R
+ok_with (Ok a) G P R g p f = f g a p
+ok_with (Err e) G P R g p f = tt
+
+pub ok_both : {A E : Type 0} (r : Result A E) (P Q R : A → Type 0) → IfOk r P → IfOk r Q → ((a : A) → P a → Q a → R a) → IfOk r R
+ok_both (Ok a) P Q R p q f = f a p q
+ok_both (Err e) P Q R p q f = tt

@@ -1,8 +1,8 @@
 -- What two bits that are never true together tell of conjunctions.
-use Rattle.std.proofs.Common.{◌≡◌, ℕ, Bool, true, false, not, ◌&&◌, List, refl, sym, ◌∙◌, ap}
+use Rattle.std.proofs.Common.{◌≡◌, Bool, true, false, not, ◌&&◌, List, refl, sym, ◌∙◌, ap}
 use Rattle.circuits.specs.declared.net.Bit.{Bit}
 use Rattle.circuits.specs.declared.net.NetNode.{NetNode}
-use Rattle.circuits.specs.Net.{holds, opposite, IsIn, Means}
+use Rattle.circuits.specs.Net.{holds, opposite, Means}
 use Rattle.circuits.proofs.Nets.{holds-opposite}
 use Rattle.folded_nets.specs.Following.{AreApart}
 use Rattle.folded_nets.specs.declared.pairs.Apart.{Apart}

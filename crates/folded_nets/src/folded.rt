@@ -39,6 +39,11 @@ impl FoldedNet {
         })
     }
 
+    /// Whether nothing is known that makes a copy smaller.
+    pub fn is_plain(&self) -> bool {
+        self.apart.is_empty()
+    }
+
     // the copy of a bit
     fn copy_of(&self, old: &Net, bit: Bit) -> Bit
         requires follows { Follows old.now self.now }

@@ -22,10 +22,10 @@ module _ (N : ℕ) (o : Obligations) where
   abbrev Shows : ℕ → Refutation → Type 0
   Shows n log = (b : Bit) → slice_get o.failing n ≡ Some b → IsShownBy N o.net b log
 
-  pub never_settled : (n : ℕ) (log : Refutation) → AreNeverTrue o.net o.failing n → Shows n log → AreNeverTrue o.net o.failing (n + 1)
-  never_settled n log none shows i x lt here = elim (cases_lt i n) as (λ _. IsNeverTrue o.net x) [
+  pub never_passed : (n : ℕ) → AreNeverTrue o.net o.failing n → ((b : Bit) → slice_get o.failing n ≡ Some b → IsNeverTrue o.net b) → AreNeverTrue o.net o.failing (n + 1)
+  never_passed n none passed i x lt here = elim (cases_lt i n) as (λ _. IsNeverTrue o.net x) [
     | inl less ↦ none i x less here
-    | inr ge ↦ let e : n ≡ i = omega (arith, ge, lt) in (shows x (ap (slice_get o.failing) e ∙ here)).never
+    | inr ge ↦ let e : n ≡ i = omega (arith, ge, lt) in passed x (ap (slice_get o.failing) e ∙ here)
   ]
 
   pub kept_none : AreKept N o 0 []
@@ -56,7 +56,7 @@ module _ (N : ℕ) (o : Obligations) where
         many = length_push logs log ∙ ap (λ k. k + 1) kept.many;
         refuted = refuted_more n logs log kept.many kept.refuted shows;
         short = All-push (IsShort N) logs log kept.short shown.short;
-        none = never_settled n log kept.none shows;
+        none = never_passed n kept.none (λ b here. (shows b here).never);
       })
     where
       -- what stands where a list has no bit

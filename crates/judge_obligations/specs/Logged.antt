@@ -1,5 +1,5 @@
 -- All obligations shown by logs, or another verdict.
-use Rattle.std.specs.Prelude.{◌≡◌, ℕ, List, length, slice_get, Some}
+use Rattle.std.specs.Prelude.{◌≡◌, ℕ, List, length, slice_get, Option, Some, None}
 use Rattle.std.specs.List.{All}
 use Rattle.c_core.specs.Tree.{Program}
 use Rattle.c_meaning.specs.declared.verdict.Verdict.{Verdict}
@@ -14,7 +14,7 @@ use Rattle.judge_obligations.specs.declared.judging.Settled.{Settled}
 use Rattle.judge_obligations.specs.declared.judging.Settled.TheVariants.{Holds, Ends}
 use Rattle.judge_obligations.specs.declared.logged.Logged.{Logged}
 use Rattle.judge_obligations.specs.declared.logged.Logged.TheVariants.{Proved, Other}
-use Rattle.bit_answers.specs.Deciding.{IsShort, IsShownBy}
+use Rattle.bit_answers.specs.Deciding.{IsNeverTrue, IsShort, IsShownBy}
 use Rattle.judge_obligations.specs.Deciding.{AreNeverTrue}
 use Rattle.judge_obligations.specs.Verdicts.{AllHold, IsRightOnInvariants, IsKept, IsDecided}
 
@@ -63,3 +63,13 @@ IsSettledAs N p I o at (Ends judged) = IsOther N p I o judged
 abbrev pub IsSettledUnspent : Settled → Type 0
 IsSettledUnspent (Holds log) = Unit {0}
 IsSettledUnspent (Ends judged) = IsDecided judged.verdict
+
+-- the obligation at an index holds, or the verdict ends there
+abbrev pub IsPassedAs : ℕ → Program → List Placed → Obligations → ℕ → Option Judged → Type 0
+IsPassedAs N p I o at None = (b : Bit) → slice_get o.failing at ≡ Some b → IsNeverTrue o.net b
+IsPassedAs N p I o at (Some judged) = IsOther N p I o judged
+
+-- no budget was spent on it
+abbrev pub IsPassedUnspent : Option Judged → Type 0
+IsPassedUnspent None = Unit {0}
+IsPassedUnspent (Some judged) = IsDecided judged.verdict

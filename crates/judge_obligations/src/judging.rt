@@ -1,18 +1,21 @@
 // The verdict on all obligations in their order.
-ghost use Rattle.std.specs.Prelude.{◌≡◌, ◌+◌, ◌-◌, ◌≤◌, ◌<◌, ◌^◌, IfOk, Some, length, slice_get};
+ghost use Rattle.std.specs.Prelude.{◌≡◌, ℕ, ◌+◌, ◌-◌, ◌≤◌, ◌<◌, ◌^◌, IfOk, OnOk, Some, length, slice_get};
 ghost use Rattle.c_core.specs.View.{program_view};
 ghost use Rattle.c_meaning.specs.Placing.{placed_view};
 ghost use Rattle.circuits.specs.Net.{count_inputs};
+ghost use Rattle.folded_nets.specs.Following.{Follows};
 ghost use Rattle.judge_obligations.specs.Answering.{IsShown, IsLeftOpen};
-ghost use Rattle.judge_obligations.specs.Deciding.{AreNeverTrue};
-ghost use Rattle.judge_obligations.specs.Logged.{IsSettledAs, IsSettledUnspent};
+ghost use Rattle.judge_obligations.specs.Deciding.{AreNeverTrue, IsTrueAt};
+ghost use Rattle.judge_obligations.specs.Logged.{IsOther, IsPassedAs, IsPassedUnspent, IsSettledAs, IsSettledUnspent};
 ghost use Rattle.judge_obligations.specs.Verdicts.{AreObligationsOf, IsRightOnInvariants, IsKept, IsDecided};
 
+use crate::asking::{Asked, ask, keep};
 use bit_answers::{Finding, decide_bit, draws_under, is_false};
 use c_core::Program;
 use c_meaning::{Cause, Draw, PlacedInvariant, Verdict};
 use circuits::Bit;
 use clauses::{Refutation, SpentAt};
+use folded_nets::FoldedNet;
 use std::alloc::Global;
 use sym_duties::Obligations;
 use wv_base::{OutOfMemory, Seq};
@@ -71,6 +74,28 @@ fn undecided(at: usize, conflicts: u64, spent: SpentAt) -> Judged
     }
 }
 
+// the obligation at an index fails, where those before it hold: these inputs make its failing bit true
+fn shown(
+    alloc: Global,
+    program: &Program,
+    invariants: &Seq<PlacedInvariant>,
+    obligations: &Obligations,
+    at: usize,
+    values: &[bool],
+) -> Result<Judged, OutOfMemory>
+    requires promised { AreObligationsOf (program_view program.now) (placed_view invariants.now) obligations.now }
+    requires within { at < length obligations.now.failing }
+    requires before { AreNeverTrue obligations.now.net obligations.now.failing at }
+    requires on { IsTrueAt obligations.now at values.now }
+    ensures other { IfOk result (λ r. (N : ℕ) → IsOther N (program_view program.now) (placed_view invariants.now)
+        obligations.now r) }
+    ensures decided { IfOk result (λ r. IsDecided r.verdict) }
+{
+    let sites = obligations.sites.as_slice();
+    let draws = draws_under(alloc, program, &obligations.net, sites, values)?;
+    Ok(failed(obligations, at, draws))
+}
+
 /// One obligation: it holds, by its log; or the verdict that it gives, where those before it hold.
 #[derive(Drop)]
 pub enum Settled {
@@ -103,15 +128,103 @@ pub fn settle(
     match decide_bit(alloc, net, bit, conflicts)? {
         Finding::NeverTrue(log) => Ok(Settled::Holds(log)),
         Finding::TrueUnder(values) => {
-            let sites = obligations.sites.as_slice();
-            let draws = draws_under(alloc, program, net, sites, values.as_slice())?;
-            Ok(Settled::Ends(failed(obligations, at, draws)))
+            let judged = shown(
+                alloc,
+                program,
+                invariants,
+                obligations,
+                at,
+                values.as_slice(),
+            )?;
+            Ok(Settled::Ends(judged))
         }
         Finding::Spent(spent) => Ok(Settled::Ends(undecided(at, conflicts, spent))),
     }
 }
 
-/// Decides the obligations one after the other, each with a budget of conflicts, up to the first that doesn't hold.
+// the obligation at an index by the net itself; where it holds, it makes the folded net smaller
+fn pass_whole(
+    alloc: Global,
+    program: &Program,
+    invariants: &Seq<PlacedInvariant>,
+    obligations: &Obligations,
+    at: usize,
+    conflicts: u64,
+    folded: &mut FoldedNet,
+) -> Result<Option<Judged>, OutOfMemory>
+    requires promised { AreObligationsOf (program_view program.now) (placed_view invariants.now) obligations.now }
+    requires within { at < length obligations.now.failing }
+    requires before { AreNeverTrue obligations.now.net obligations.now.failing at }
+    requires some { 1 ≤ conflicts }
+    requires bounded { conflicts ≤ 1000000 }
+    requires follows { Follows obligations.now.net folded.old }
+    ensures follows { OnOk result (Follows obligations.now.net folded.new) }
+    ensures passed { IfOk result
+        (IsPassedAs conflicts (program_view program.now) (placed_view invariants.now) obligations.now at) }
+    ensures decided { IfOk result (λ r. 2 ^ (count_inputs obligations.now.net + 1) - 2 < conflicts
+        → IsPassedUnspent r) }
+{
+    match settle(alloc, program, invariants, obligations, at, conflicts)? {
+        Settled::Holds(_) => {
+            keep(&obligations.net, failing_at(obligations, at), folded)?;
+            Ok(None)
+        }
+        Settled::Ends(judged) => Ok(Some(judged)),
+    }
+}
+
+// decides the obligation at an index, where those before it hold: `None` where it holds too
+fn pass(
+    alloc: Global,
+    program: &Program,
+    invariants: &Seq<PlacedInvariant>,
+    obligations: &Obligations,
+    at: usize,
+    conflicts: u64,
+    folded: &mut FoldedNet,
+) -> Result<Option<Judged>, OutOfMemory>
+    requires promised { AreObligationsOf (program_view program.now) (placed_view invariants.now) obligations.now }
+    requires within { at < length obligations.now.failing }
+    requires before { AreNeverTrue obligations.now.net obligations.now.failing at }
+    requires some { 1 ≤ conflicts }
+    requires bounded { conflicts ≤ 1000000 }
+    requires follows { Follows obligations.now.net folded.old }
+    ensures follows { OnOk result (Follows obligations.now.net folded.new) }
+    ensures passed { IfOk result
+        (IsPassedAs conflicts (program_view program.now) (placed_view invariants.now) obligations.now at) }
+    ensures decided { IfOk result (λ r. 2 ^ (count_inputs obligations.now.net + 1) - 2 < conflicts
+        → IsPassedUnspent r) }
+{
+    let net = &obligations.net;
+    let _ = net.nodes();
+    let bit = failing_at(obligations, at);
+    match ask(alloc, net, bit, conflicts, folded)? {
+        Asked::NeverTrue => Ok(None),
+        Asked::TrueUnder(values) => {
+            let judged = shown(
+                alloc,
+                program,
+                invariants,
+                obligations,
+                at,
+                values.as_slice(),
+            )?;
+            Ok(Some(judged))
+        }
+        Asked::Open => pass_whole(
+            alloc,
+            program,
+            invariants,
+            obligations,
+            at,
+            conflicts,
+            folded,
+        ),
+    }
+}
+
+/// Decides the obligations one after the other, each with a budget of conflicts, up to the first that doesn't hold. Those
+/// that hold make the net smaller for the next; what isn't decided there is decided in the net itself.
 pub fn decide(
     alloc: Global,
     program: &Program,
@@ -130,13 +243,21 @@ pub fn decide(
 {
     let net = &obligations.net;
     let many = obligations.failing.len();
+    let mut folded = FoldedNet::new(alloc, net)?;
     for at in 0..many {
         if is_false(net, failing_at(obligations, at)) {
             continue;
         }
-        match settle(alloc, program, invariants, obligations, at, conflicts)? {
-            Settled::Holds(_) => {}
-            Settled::Ends(judged) => return Ok(judged),
+        if let Some(judged) = pass(
+            alloc,
+            program,
+            invariants,
+            obligations,
+            at,
+            conflicts,
+            &mut folded,
+        )? {
+            return Ok(judged);
         }
     }
     Ok(Judged {

@@ -3,6 +3,7 @@
 //! budget was spent. `judge_logged` keeps besides the log that shows each obligation, where all hold.
 #![tactic(auto)]
 
+mod asking;
 mod judging;
 mod laws;
 mod logged;

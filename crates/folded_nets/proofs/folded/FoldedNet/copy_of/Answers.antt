@@ -1,6 +1,6 @@
-use Rattle.std.proofs.Common.{◌≡◌, rules, subst, sym, ◌∙◌}
+use Rattle.std.proofs.Common.{subst, sym}
 use Rattle.folded_nets.specs.Following.{IsCopy}
-use Rattle.folded_nets.proofs.Copies.{copied_plain, copied_negated}
+use Rattle.folded_nets.proofs.Copies.{copied_negated}
 use Rattle.folded_nets.proofs.folded.FoldedNet.copy_of.Goals as goal
 
 pub returns-then-bit : goal.returns-then-bit

@@ -1,4 +1,4 @@
-use Rattle.std.proofs.Common.{rules, cc}
+use Rattle.std.proofs.Common.{rules}
 use Rattle.folded_nets.proofs.Copies.{follows_first}
 use Rattle.folded_nets.proofs.folded.FoldedNet.new.Goals as goal
 
