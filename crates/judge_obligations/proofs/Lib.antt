@@ -2,3 +2,4 @@ mod Chosen
 mod Verdicted
 mod Kept
 mod Told
+mod Asked

@@ -164,9 +164,12 @@ fn pass_whole(
     ensures decided { IfOk result (λ r. 2 ^ (count_inputs obligations.now.net + 1) - 2 < conflicts
         → IsPassedUnspent r) }
 {
+    let net = &obligations.net;
+    let _ = net.nodes();
+    let bit = failing_at(obligations, at);
     match settle(alloc, program, invariants, obligations, at, conflicts)? {
         Settled::Holds(_) => {
-            keep(&obligations.net, failing_at(obligations, at), folded)?;
+            keep(net, bit, folded)?;
             Ok(None)
         }
         Settled::Ends(judged) => Ok(Some(judged)),
@@ -248,7 +251,7 @@ pub fn decide(
         if is_false(net, failing_at(obligations, at)) {
             continue;
         }
-        if let Some(judged) = pass(
+        match pass(
             alloc,
             program,
             invariants,
@@ -257,7 +260,8 @@ pub fn decide(
             conflicts,
             &mut folded,
         )? {
-            return Ok(judged);
+            None => {}
+            Some(judged) => return Ok(judged),
         }
     }
     Ok(Judged {
