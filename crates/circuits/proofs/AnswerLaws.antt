@@ -11,7 +11,7 @@ use Rattle.circuits.specs.declared.orders.Order.{Order}
 use Rattle.circuits.specs.Net.{holds, opposite, IsIn, IsNet, Means}
 use Rattle.circuits.specs.Words.{unknown, IsOrderOf}
 use Rattle.circuits.specs.Facts.{Condition, AllFollow, AreArms, IsAlike, IsAnswer, IsBoth, IsConjunction, IsZeroWhere}
-use Rattle.circuits.specs.Inequalities.{IsDifference, IsKnown, IsMoreBy, IsOrderWhere, IsOtherDifference, IsSameOrder}
+use Rattle.circuits.specs.Inequalities.{IsDecidedBy, IsDifference, IsKnown, IsMoreBy, IsOrderWhere, IsOtherDifference, IsSameOrder, IsValueWhere}
 use Rattle.circuits.proofs.Congruence.{zero_same}
 use Rattle.circuits.proofs.Nets.{holds-opposite, means_yes}
 use Rattle.circuits.proofs.FactLaws.{plain_sign, sign_known, zero_of}
@@ -131,14 +131,25 @@ same_order {net} {words} {here} {w} {a} {b} {c} {d} {p} o z =
     let none : (v : ℕ → Bool) → here v ≡ true → Same w (value (unknown v net words) p) 0 = λ v h. zero_same (zero_of (value (unknown v net words) p % 2 ^ w) (z.is v h)) in
     record { lesser = λ v h. o.lesser (unknown v net words) (truths v net words) (none v h); greater = λ v h. o.greater (unknown v net words) (truths v net words) (none v h) }
 
--- the value of a bit that tells an order which is a known one
-pub answer_order : {net : List NetNode} {words : List (List Bit)} {here : Condition} {b : Bit} (o : Order) (k : Known) → IsOrderOf net words o.width o.lesser o.greater o.bit → IsKnown net words here k
-    → k.width ≡ o.width → IsSameOrder net words here o.width o.lesser o.greater k.lesser k.greater → o.bit.node ≡ b.node → IsAnswer net here b (beq k.is_less (beq o.bit.negated b.negated))
-answer_order {net} {words} {here} {b} o k order known w same n =
-    let here_known = subst (λ x. IsOrderWhere net words here x k.lesser k.greater k.is_less) w known in
+-- an order of the same numbers as a known one
+pub value_of_same : {net : List NetNode} {words : List (List Bit)} {here : Condition} {w : ℕ} {a b : List Term} (k : Known) → k.width ≡ w → IsSameOrder net words here w a b k.lesser k.greater
+    → IsKnown net words here k → IsValueWhere net words here w a b k.is_less
+value_of_same {net} {words} {here} {w} {a} {b} k e same known =
+    let at_width = subst (λ x. IsOrderWhere net words here x k.lesser k.greater k.is_less) e known in
     record {
       is = λ v h.
           let f = unknown v net words in
-          sign_known v net o.bit b k.is_less n
-          (sym (order.is v) ∙ ap (λ x. nat_lt x (value f o.greater % 2 ^ o.width)) (same.lesser v h).is ∙ ap (λ x. nat_lt (value f k.lesser % 2 ^ o.width) x) (same.greater v h).is ∙ here_known.is v h);
+          ap (λ x. nat_lt x (value f b % 2 ^ w)) (same.lesser v h).is ∙ ap (λ x. nat_lt (value f k.lesser % 2 ^ w) x) (same.greater v h).is ∙ at_width.is v h;
     }
+
+-- an order that a known one decides
+pub value_of_decided : {net : List NetNode} {words : List (List Bit)} {here : Condition} {w : ℕ} {a b : List Term} {is : Bool} (k : Known) → k.width ≡ w
+    → IsDecidedBy w k.lesser k.greater k.is_less a b is → IsKnown net words here k → IsValueWhere net words here w a b is
+value_of_decided {net} {words} {here} {w} {a} {b} {is} k e decided known =
+    let at_width = subst (λ x. IsOrderWhere net words here x k.lesser k.greater k.is_less) e known in
+    record { is = λ v h. decided.is (unknown v net words) (truths v net words) (at_width.is v h) }
+
+-- the value of a bit that tells an order
+pub answer_order : {net : List NetNode} {words : List (List Bit)} {here : Condition} {b : Bit} {is : Bool} (o : Order) → IsOrderOf net words o.width o.lesser o.greater o.bit
+    → IsValueWhere net words here o.width o.lesser o.greater is → o.bit.node ≡ b.node → IsAnswer net here b (beq is (beq o.bit.negated b.negated))
+answer_order {net} {words} {here} {b} {is} o order known n = record { is = λ v h. sign_known v net o.bit b is n (sym (order.is v) ∙ known.is v h) }

@@ -30,17 +30,17 @@ use Rattle.circuits.proofs.WordLaws.{truths}
 use Rattle.circuits.proofs.FactLaws.{sign_known}
 
 -- ---- numbers
-no_more : {w a : ℕ} (b : ℕ) → Same w a (b + 0) → a % 2 ^ w ≡ b % 2 ^ w
+pub no_more : {w a : ℕ} (b : ℕ) → Same w a (b + 0) → a % 2 ^ w ≡ b % 2 ^ w
 no_more {w} {a} b s = let e : b + 0 ≡ b = omega arith in s.is ∙ ap (λ k. k % 2 ^ w) e
 
-one_more : {w a : ℕ} (b : ℕ) → Same w a (b + 1) → b % 2 ^ w + 1 < 2 ^ w → a % 2 ^ w ≡ b % 2 ^ w + 1
+pub one_more : {w a : ℕ} (b : ℕ) → Same w a (b + 1) → b % 2 ^ w + 1 < 2 ^ w → a % 2 ^ w ≡ b % 2 ^ w + 1
 one_more {w} {a} b s l = s.is ∙ (same_sym (same_add (same_mod w b) (same_refl w 1))).is ∙ mod-eq_of_lt l
 
 pub same_of_neither : (w a b c d : ℕ) → nat_lt (a % 2 ^ w) (b % 2 ^ w) ≡ false → nat_lt (c % 2 ^ w) (d % 2 ^ w) ≡ false → Same w a (d + 0) → Same w c (b + 0) → Same w a b
 same_of_neither w a b c d h k s t =
     record { is = omega (arith, ltb-false (a % 2 ^ w) (b % 2 ^ w) h, ltb-false (c % 2 ^ w) (d % 2 ^ w) k, no_more d s, no_more b t) }
 
-below_whole : (w a : ℕ) → a % 2 ^ w < 2 ^ w
+pub below_whole : (w a : ℕ) → a % 2 ^ w < 2 ^ w
 below_whole w a = mod_below a (2 ^ w) (pow_pos w)
 
 -- a < b, and b isn't above a + 1

@@ -47,3 +47,11 @@ pub record IsOtherDifference (width : ℕ) (a b c d apart : List Term) : Type 0 
 pub record IsSameOrder (net : List NetNode) (words : List (List Bit)) (here : Condition) (width : ℕ) (a b c d : List Term) : Type 0 where
   pub lesser : (v : ℕ → Bool) → here v ≡ true → Same width (value (unknown v net words) a) (value (unknown v net words) c)
   pub greater : (v : ℕ → Bool) → here v ≡ true → Same width (value (unknown v net words) b) (value (unknown v net words) d)
+
+-- the value of an order wherever another one, of a and b, has a value
+pub record IsDecidedBy (width : ℕ) (a b : List Term) (known : Bool) (c d : List Term) (value_is : Bool) : Type 0 where
+  pub is : (v : ℕ → ℕ) → AreTruths v → nat_lt (value v a % 2 ^ width) (value v b % 2 ^ width) ≡ known → nat_lt (value v c % 2 ^ width) (value v d % 2 ^ width) ≡ value_is
+
+-- whether one polynomial over words is less than another wherever a condition is met
+pub record IsValueWhere (net : List NetNode) (words : List (List Bit)) (here : Condition) (width : ℕ) (a b : List Term) (value_is : Bool) : Type 0 where
+  pub is : (v : ℕ → Bool) → here v ≡ true → nat_lt (value (unknown v net words) a % 2 ^ width) (value (unknown v net words) b % 2 ^ width) ≡ value_is

@@ -4,8 +4,9 @@ ghost use Rattle.circuits.specs.Net.{holds, IsIn, IsNet, Means};
 ghost use Rattle.circuits.specs.Words.{AreTrue, AreWords, bits_of};
 ghost use Rattle.circuits.specs.declared.net.NetNode.{NetNode};
 ghost use Rattle.circuits.specs.Facts.{Condition, AllFollow, IsAlike, IsAnswer, IsBoth, IsConjunction, IsRest, IsZeroWhere};
-ghost use Rattle.circuits.specs.Inequalities.{IsOtherDifference, IsSameOrder};
+ghost use Rattle.circuits.specs.Inequalities.{IsKnown, IsOtherDifference, IsSameOrder, IsValueWhere};
 
+use crate::bounds::value_by;
 use crate::facts::{facts_for, highest_truth};
 use crate::hints::Hints;
 use crate::inequalities::{Known, difference, is_more_by, known_orders};
@@ -147,6 +148,16 @@ fn other_difference(
     Ok(None)
 }
 
+// whether a polynomial is a number other than 0: then no fact makes it 0, but where no run is
+fn is_other_number(width: u32, polynomial: &Polynomial) -> bool
+    requires { width ≤ 64 }
+{
+    match polynomial.as_constant() {
+        Some(constant) => masked(width, constant) != 0,
+        None => false,
+    }
+}
+
 // whether an order is a known one of equal numbers
 fn is_same_order(
     nodes: &[NetNode],
@@ -170,13 +181,45 @@ fn is_same_order(
     let Some(rest) = other_difference(hints.alloc, order, other)? else {
         return Ok(false);
     };
+    if is_other_number(order.width, &rest) {
+        return Ok(false);
+    }
     match is_zero(nodes, hints, known, 0, order.width, &rest, questions)? {
         Some(is) => Ok(is),
         None => Ok(false),
     }
 }
 
-// the value of a bit that tells which of two numbers is less: that of a known order of equal numbers
+// the value of an order by a known one: of equal numbers, of a neighbour, or of constants
+fn value_beside(
+    nodes: &[NetNode],
+    hints: &Hints,
+    known: &[Bit],
+    order: &Order,
+    other: &Known,
+    questions: &mut u32,
+) -> Result<Option<bool>, OutOfMemory>
+    requires net { IsNet nodes.now }
+    requires hints { AreTrue nodes.now hints.now }
+    requires narrow { order.now.width ≤ 64 }
+    ensures { IfOk result (λ r. IfSome r (λ is. (here : Condition) → AllFollow nodes.now here known.now
+        → IsKnown nodes.now (bits_of hints.now.words.list.items) here other.now
+        → IsValueWhere nodes.now (bits_of hints.now.words.list.items) here order.now.width order.now.lesser
+        order.now.greater is)) }
+{
+    if other.width != order.width {
+        return Ok(None);
+    }
+    if let Some(is) = value_by(hints.alloc, order, other)? {
+        return Ok(Some(is));
+    }
+    if is_same_order(nodes, hints, known, order, other, questions)? {
+        return Ok(Some(other.is_less));
+    }
+    Ok(None)
+}
+
+// the value of a bit that tells which of two numbers is less, by known orders
 fn value_of_order(
     nodes: &[NetNode],
     hints: &Hints,
@@ -198,8 +241,8 @@ fn value_of_order(
     let others = known_orders(hints.alloc, &hints.orders, known)?;
     for i in 0..others.len() {
         let other = &others[i];
-        if is_same_order(nodes, hints, known, order, other, questions)? {
-            return Ok(Some(other.is_less == (order.bit.negated == bit.negated)));
+        if let Some(is) = value_beside(nodes, hints, known, order, other, questions)? {
+            return Ok(Some(is == (order.bit.negated == bit.negated)));
         }
     }
     Ok(None)

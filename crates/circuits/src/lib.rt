@@ -5,6 +5,7 @@
 mod answers;
 mod binary;
 mod bits;
+mod bounds;
 mod comparisons;
 mod conversions;
 mod facts;
