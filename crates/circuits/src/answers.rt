@@ -434,6 +434,25 @@ fn value_in_arms(
     Ok(value_of_arms(first, second))
 }
 
+// whether something of words is asked in a bit
+fn asks(nodes: &[NetNode], hints: &Hints, depth: u32, bit: Bit) -> bool
+    requires { IsNet nodes.now }
+{
+    if hints.is_test(bit.node) {
+        return true;
+    }
+    let plain = Bit {
+        node: bit.node,
+        negated: false,
+    };
+    match arguments(nodes, plain) {
+        Some(pair) if depth != 0 => {
+            asks(nodes, hints, depth - 1, pair.left) || asks(nodes, hints, depth - 1, pair.right)
+        }
+        _ => false,
+    }
+}
+
 /// A bit that has the value of another wherever `live` is true: a constant or a part of it, where facts tell that.
 /// `questions` is how often facts may still be asked for it.
 pub fn simplified(
@@ -452,7 +471,8 @@ pub fn simplified(
     if bit.node == 0 || (hints.zeros.list.is_empty() && hints.orders.list.is_empty()) {
         return Ok(bit);
     }
-    let given = given_at(nodes, hints, live)?;
+    let has_orders = *questions != 0 && asks(nodes, hints, DEPTH, bit);
+    let given = given_at(nodes, hints, live, has_orders)?;
     let part = part_where(nodes, hints, &given, DEPTH, bit, questions)?;
     if part.node == 0 {
         return Ok(part);

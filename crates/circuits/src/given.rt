@@ -17,26 +17,42 @@ pub struct Given {
     pub bits: Vec<Bit>,
     pub orders: Vec<Known>,
     pub equalities: Vec<Equality>,
+    /// without it there are no orders, and no equalities
+    pub has_orders: bool,
 }
 
 // what follows from bits
-fn given_by(nodes: &[NetNode], hints: &Hints, bits: Vec<Bit>) -> Result<Given, OutOfMemory>
+fn given_by(
+    nodes: &[NetNode],
+    hints: &Hints,
+    bits: Vec<Bit>,
+    has_orders: bool,
+) -> Result<Given, OutOfMemory>
     requires net { IsNet nodes.now }
     requires hints { AreTrue nodes.now hints.now }
     ensures { IfOk result (λ r. (here : Condition) → AllFollow nodes.now here bits.items
         → IsGiven nodes.now (bits_of hints.now.words.list.items) here r) }
 {
-    let orders = known_orders(nodes, hints, &bits)?;
+    let mut orders = Vec::new(hints.alloc);
+    if has_orders {
+        orders = known_orders(nodes, hints, &bits)?;
+    }
     let equalities = equalities(hints.alloc, &orders)?;
     Ok(Given {
         bits,
         orders,
         equalities,
+        has_orders,
     })
 }
 
-/// What is known wherever a bit is true.
-pub fn given_at(nodes: &[NetNode], hints: &Hints, live: Bit) -> Result<Given, OutOfMemory>
+/// What is known wherever a bit is true, with orders or without them.
+pub fn given_at(
+    nodes: &[NetNode],
+    hints: &Hints,
+    live: Bit,
+    has_orders: bool,
+) -> Result<Given, OutOfMemory>
     requires net { IsNet nodes.now }
     requires hints { AreTrue nodes.now hints.now }
     requires live_in { IsIn nodes.now live }
@@ -46,7 +62,7 @@ pub fn given_at(nodes: &[NetNode], hints: &Hints, live: Bit) -> Result<Given, Ou
     let mut known = Vec::new(hints.alloc);
     known.push(live)?;
     let bits = taken_apart(nodes, hints, known, 0)?;
-    given_by(nodes, hints, bits)
+    given_by(nodes, hints, bits, has_orders)
 }
 
 /// What is known where a bit is true besides.
@@ -64,5 +80,5 @@ pub fn given_with(
         → IsGiven nodes.now (bits_of hints.now.words.list.items) (λ v. here v && holds v nodes.now bit) r) }
 {
     let bits = assumed(hints.alloc, nodes, hints, &given.bits, bit)?;
-    given_by(nodes, hints, bits)
+    given_by(nodes, hints, bits, given.has_orders)
 }
