@@ -37,8 +37,25 @@ pub fn arguments(nodes: &[NetNode], bit: Bit) -> Option<Pair>
     }
 }
 
-/// Bits, and what is conjoined in those from a place on, the nearest first; what tells something of
-/// words stays whole.
+/// Whether a bit of this node isn't to be taken apart: it tells something of words, and nothing that is conjoined in it
+/// does. (Where runs are may be what a test of words comes to.)
+pub fn is_whole(nodes: &[NetNode], hints: &Hints, node: u32) -> bool
+    requires { IsNet nodes.now }
+{
+    if !hints.is_test(node) {
+        return false;
+    }
+    let plain = Bit {
+        node,
+        negated: false,
+    };
+    match arguments(nodes, plain) {
+        Some(pair) => !hints.is_test(pair.left.node) && !hints.is_test(pair.right.node),
+        None => true,
+    }
+}
+
+/// Bits, and what is conjoined in those from a place on, the nearest first; what tells something of words stays whole.
 pub fn taken_apart(
     nodes: &[NetNode],
     hints: &Hints,
@@ -56,7 +73,7 @@ pub fn taken_apart(
             break;
         }
         let whole = all[at];
-        if hints.is_test(whole.node) {
+        if is_whole(nodes, hints, whole.node) {
             continue;
         }
         if let Some(pair) = arguments(nodes, whole) {
@@ -180,7 +197,10 @@ fn arms_of(nodes: &[NetNode], known: &[Bit], bit: Bit) -> Option<Pair>
         left: not(pair.left),
         right: not(pair.right),
     };
-    match (value_among(known, arms.left), value_among(known, arms.right)) {
+    match (
+        value_among(known, arms.left),
+        value_among(known, arms.right),
+    ) {
         (Some(true), _) | (_, Some(true)) => None,
         _ => Some(arms),
     }
@@ -193,7 +213,7 @@ pub fn arms(nodes: &[NetNode], hints: &Hints, known: &[Bit]) -> Option<Pair>
     ensures { IfSome result (λ p. AreArms nodes.now known.now p.left p.right) }
 {
     for bit in known {
-        if !hints.is_test(bit.node) {
+        if !is_whole(nodes, hints, bit.node) {
             if let Some(arms) = arms_of(nodes, known, *bit) {
                 return Some(arms);
             }
