@@ -12,7 +12,7 @@ use crate::facts::facts_for;
 use crate::given::{Given, given_at, given_with};
 use crate::hints::Hints;
 use crate::inequalities::{Known, difference, is_more_by};
-use crate::parts::{arguments, arms, is_contradictory, is_whole, value_among};
+use crate::parts::{arguments, arms, is_contradictory, value_among};
 use crate::truths::{highest_truth, specialised};
 use crate::{Bit, NetNode, not};
 use polynomials::{Polynomial, masked, reduce};
@@ -343,11 +343,11 @@ fn part_where(
     if let Some(value) = value_among(&given.bits, bit) {
         return Ok(constant(value));
     }
-    if let Some(value) = value_of_whole(nodes, hints, given, bit, questions)? {
-        return Ok(constant(value));
-    }
-    if depth == 0 || is_whole(nodes, hints, bit.node) {
-        return Ok(bit);
+    if hints.is_test(bit.node) {
+        return match value_of_whole(nodes, hints, given, bit, questions)? {
+            Some(value) => Ok(constant(value)),
+            None => Ok(bit),
+        };
     }
     let plain = Bit {
         node: bit.node,
@@ -356,6 +356,9 @@ fn part_where(
     let Some(pair) = arguments(nodes, plain) else {
         return Ok(bit);
     };
+    if depth == 0 {
+        return Ok(bit);
+    }
     let left = part_where(nodes, hints, given, depth - 1, pair.left, questions)?;
     let right = part_where(nodes, hints, given, depth - 1, pair.right, questions)?;
     Ok(part_of(bit, left, right))

@@ -37,9 +37,9 @@ pub fn arguments(nodes: &[NetNode], bit: Bit) -> Option<Pair>
     }
 }
 
-/// Whether a bit of this node isn't to be taken apart: it tells something of words, and nothing that is conjoined in it
-/// does. (Where runs are may be what a test of words comes to.)
-pub fn is_whole(nodes: &[NetNode], hints: &Hints, node: u32) -> bool
+// whether nothing is learned of what is conjoined in a bit of this node: it tells something of words, and that doesn't
+// (where runs are may be what a test of words comes to)
+fn is_whole(nodes: &[NetNode], hints: &Hints, node: u32) -> bool
     requires { IsNet nodes.now }
 {
     if !hints.is_test(node) {
@@ -112,7 +112,8 @@ fn conjoined(left: Option<bool>, right: Option<bool>) -> Option<bool>
 /// The value that a bit has by what is conjoined in it, or in its opposite.
 pub fn value_by_parts(nodes: &[NetNode], known: &[Bit], depth: u32, bit: Bit) -> Option<bool>
     requires { IsNet nodes.now }
-    ensures { IfSome result (λ r. (here : Condition) → AllFollow nodes.now here known.now → IsAnswer nodes.now here bit r) }
+    ensures { IfSome result (λ r. (here : Condition) → AllFollow nodes.now here known.now
+        → IsAnswer nodes.now here bit r) }
 {
     if let Some(value) = value_among(known, bit) {
         return Some(value);
@@ -213,7 +214,7 @@ pub fn arms(nodes: &[NetNode], hints: &Hints, known: &[Bit]) -> Option<Pair>
     ensures { IfSome result (λ p. AreArms nodes.now known.now p.left p.right) }
 {
     for bit in known {
-        if !is_whole(nodes, hints, bit.node) {
+        if !hints.is_test(bit.node) {
             if let Some(arms) = arms_of(nodes, known, *bit) {
                 return Some(arms);
             }
