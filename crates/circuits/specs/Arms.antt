@@ -1,5 +1,5 @@
 -- What is known of a bit in the arms of a disjunction.
-use Rattle.std.specs.Prelude.{◌≡◌, ℕ, Bool, true, ◌||◌, List}
+use Rattle.std.specs.Prelude.{Bool, ◌||◌, List}
 use Rattle.circuits.specs.declared.net.Bit.{Bit}
 use Rattle.circuits.specs.declared.net.NetNode.{NetNode}
 use Rattle.circuits.specs.declared.answers.Arm.{Arm}

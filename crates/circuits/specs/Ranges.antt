@@ -1,5 +1,5 @@
 -- Ranges of numbers modulo 2^w.
-use Rattle.std.specs.Prelude.{◌≡◌, ℕ, ◌+◌, ◌%◌, ◌^◌, ◌≤◌, ◌<◌, Bool, true, false}
+use Rattle.std.specs.Prelude.{ℕ, ◌+◌, ◌%◌, ◌^◌, ◌≤◌, ◌<◌, Bool, true, false}
 use Rattle.circuits.specs.declared.ranges.Range.{Range}
 
 pub record IsWithin (r : Range) (n : ℕ) : Type 0 where

@@ -131,7 +131,7 @@ fn highest_in(term: &Term) -> u32 {
     highest
 }
 
-/// A polynomial that is another one wherever these bits are true: the truths that are known there have their values in it.
+/// A polynomial that is another one wherever these bits are true: known truths have their values in it.
 pub fn specialised(
     nodes: &[NetNode],
     hints: &Hints,

@@ -1,4 +1,4 @@
-use Rattle.std.proofs.Common.{subst, sym, true}
+use Rattle.std.proofs.Common.{subst}
 use Rattle.circuits.specs.Words.{bits_of}
 use Rattle.circuits.specs.Facts.{Condition, IsZeroWhere}
 use Rattle.circuits.specs.Inequalities.{IsGiven, IsOtherDifference}

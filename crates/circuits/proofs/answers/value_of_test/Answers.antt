@@ -1,5 +1,4 @@
 use Rattle.std.proofs.Common.{sym, subst}
-use Rattle.circuits.specs.declared.net.Bit.{Bit}
 use Rattle.circuits.specs.Words.{IsZero, bits_of}
 use Rattle.circuits.specs.Facts.{Condition, IsZeroWhere}
 use Rattle.circuits.specs.Inequalities.{IsGiven}

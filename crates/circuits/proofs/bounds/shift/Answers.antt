@@ -1,4 +1,4 @@
-use Rattle.std.proofs.Common.{◌≡◌, ◌<◌, ◌^◌, ◌+◌, subst, sym, true, false, arith}
+use Rattle.std.proofs.Common.{◌≡◌, ◌<◌, ◌^◌, ◌+◌, subst, sym, arith}
 use Rattle.circuits.specs.Inequalities.{IsMoreBy, IsShifted}
 use Rattle.circuits.specs.Ranges.{Wraps}
 use Rattle.circuits.proofs.FactLaws.{at_some}

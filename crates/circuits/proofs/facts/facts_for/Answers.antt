@@ -1,4 +1,3 @@
-use Rattle.std.proofs.Common.{subst, sym}
 use Rattle.std.proofs.lemmas.Result.{IfOk-weaker}
 use Rattle.circuits.specs.Words.{bits_of}
 use Rattle.circuits.proofs.facts.facts_for.Goals as goal

@@ -1,5 +1,4 @@
 use Rattle.std.proofs.Common.{refl}
-use Rattle.circuits.specs.Facts.{IsDisjunction}
 use Rattle.circuits.proofs.FactLaws.{arms_of}
 use Rattle.circuits.proofs.parts.arms.Goals as goal
 

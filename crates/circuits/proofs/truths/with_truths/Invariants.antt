@@ -1,4 +1,3 @@
-use Rattle.circuits.specs.declared.net.Bit.{Bit}
 use Rattle.circuits.specs.Words.{bits_of}
 use Rattle.circuits.specs.Facts.{Condition, AllFollow, AreFacts}
 use Rattle.circuits.proofs.truths.with_truths.Given as goal
