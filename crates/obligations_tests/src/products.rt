@@ -202,8 +202,8 @@ int main() {
 }
 ",
         claims: &[
-            (Location, 16, "s < 64 && (a >= b || s != 8)"),
-            (Location, 19, "a - b < 8 || a < b"),
+            (Location, 15, "s < 64 && (a >= b || s != 8)"),
+            (Location, 18, "a - b < 8 || a < b"),
         ],
     },
 ];
