@@ -32,6 +32,16 @@ pub fn keep(net: &Net, bit: Bit, folded: &mut FoldedNet) -> Result<(), OutOfMemo
     folded.note_never(net, bit)
 }
 
+// the part of the budget that a copy gets: a bit that isn't decided by it is asked in the net itself, with the whole budget
+fn part_of(conflicts: u64) -> u64
+    requires some { 1 ≤ conflicts }
+    requires bounded { conflicts ≤ 1000000 }
+    ensures some { 1 ≤ result }
+    ensures bounded { result ≤ 1000000 }
+{
+    (conflicts + 3) / 4
+}
+
 // asks the copy of a bit
 fn ask_copy(
     alloc: Global,
@@ -52,7 +62,7 @@ fn ask_copy(
     if is_false(&folded.net, copy) {
         return Ok(Asked::NeverTrue);
     }
-    match decide_bit(alloc, &folded.net, copy, conflicts)? {
+    match decide_bit(alloc, &folded.net, copy, part_of(conflicts))? {
         Finding::NeverTrue(_) => {
             folded.note_never(net, bit)?;
             Ok(Asked::NeverTrue)
