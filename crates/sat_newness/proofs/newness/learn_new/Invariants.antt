@@ -1,4 +1,4 @@
-use Rattle.std.proofs.Common.{◌≡◌, ◌×◌, length}
+use Rattle.std.proofs.Common.{◌≡◌, length}
 use Rattle.sat_newness.specs.Kept.{IsNewLog}
 use Rattle.sat_newness.proofs.newness.learn_new.Given as goal
 
