@@ -89,7 +89,13 @@ pub fn learn_new(alloc: Global, cnf: &Cnf, budget: u64) -> Result<Kept, OutOfMem
     for _ in 0..budget {
         match learner.learn()? {
             Step::Learned(chain) => {
-                if !add_new(learner.weights(), &cnf.clauses, &mut chains, chain, &mut pairs)? {
+                if !add_new(
+                    learner.weights(),
+                    &cnf.clauses,
+                    &mut chains,
+                    chain,
+                    &mut pairs,
+                )? {
                     return Ok(Kept::Other(Outcome::Nothing));
                 }
             }
