@@ -1,5 +1,5 @@
 -- The values of bits wherever a condition is met: of conjunctions by their parts, of orders by known ones.
-use Rattle.std.proofs.Common.{◌≡◌, ℕ, ◌+◌, ◌%◌, ◌^◌, ◌<◌, ◌≤◌, nat_lt, nat_eq, Bool, true, false, not, ◌&&◌, ◌||◌, List, length, get_or, refl, sym, ◌∙◌, ap, subst, arith}
+use Rattle.std.proofs.Common.{◌≡◌, ℕ, ◌+◌, ◌%◌, ◌^◌, nat_lt, Bool, true, false, not, ◌&&◌, ◌||◌, List, refl, sym, ◌∙◌, ap, subst, arith}
 use Rattle.std.proofs.Math.Bool.{beq}
 use Rattle.polynomials.specs.Values.{Same, value}
 use Rattle.polynomials.specs.declared.polynomial.Term.{Term}
@@ -10,8 +10,10 @@ use Rattle.circuits.specs.declared.inequalities.Known.{Known}
 use Rattle.circuits.specs.declared.orders.Order.{Order}
 use Rattle.circuits.specs.Net.{holds, opposite, IsIn, IsNet, Means}
 use Rattle.circuits.specs.Words.{unknown, IsOrderOf}
-use Rattle.circuits.specs.Facts.{Condition, AllFollow, AreArms, IsAlike, IsAnswer, IsBoth, IsConjunction, IsZeroWhere}
-use Rattle.circuits.specs.Inequalities.{IsDifference, IsKnown, IsMoreBy, IsOrderWhere, IsOtherDifference, IsSameOrder}
+use Rattle.circuits.specs.Facts.{Condition, AllFollow, AreArms, IsAlike, IsAnswer, IsBoth, IsConjunction, IsRest, IsZeroWhere}
+use Rattle.circuits.specs.Arms.{IsOfArms}
+use Rattle.circuits.specs.declared.answers.Arm.TheVariants.{Never, Constant}
+use Rattle.circuits.specs.Inequalities.{IsDifference, IsKnown, IsMoreBy, IsOrderWhere, IsOtherDifference, IsSameOrder, IsValueWhere}
 use Rattle.circuits.proofs.Congruence.{zero_same}
 use Rattle.circuits.proofs.Nets.{holds-opposite, means_yes}
 use Rattle.circuits.proofs.FactLaws.{plain_sign, sign_known, zero_of}
@@ -24,26 +26,41 @@ alike_itself b h = record { inside = h; is = λ v e. refl }
 pub alike_constant : {net : List NetNode} {here : Condition} {b c : Bit} {value_is : Bool} → IsAnswer net here b value_is → Means net c (λ v. value_is) → IsAlike net here b c
 alike_constant a m = record { inside = m.inside; is = λ v e. a.is v e ∙ sym (m.is v) }
 
-in_an_arm : {net : List NetNode} {b one other : Bit} {value_is : Bool} (here : Condition) (left right : Bit) (v : ℕ → Bool) (x y : Bool) → here v ≡ true → holds v net left ≡ x → holds v net right ≡ y
-    → (x || y) ≡ true → IsAlike net (λ u. here u && holds u net left) b one → IsAlike net (λ u. here u && holds u net right) b other → holds v net one ≡ value_is → holds v net other ≡ value_is
-    → holds v net b ≡ value_is
-in_an_arm {net} here left right v true y h el er e first second one other = first.is v (ap (λ k. k && holds v net left) h ∙ el) ∙ one
-in_an_arm {net} here left right v false true h el er e first second one other = second.is v (ap (λ k. k && holds v net right) h ∙ er) ∙ other
-in_an_arm {net} here left right v false false h el er e first second one other = cc
-
 plain_not : (t : Bool) → beq false t ≡ not t
 plain_not true = refl
 plain_not false = refl
 
--- a bit that is the same constant in both arms
-pub answer_in_arms : {net : List NetNode} {here : Condition} {known : List Bit} (left right b one other : Bit) → IsNet net → AreArms net known left right → AllFollow net here known → one.node ≡ 0
-    → other ≡ one → IsAlike net (λ u. here u && holds u net left) b one → IsAlike net (λ u. here u && holds u net right) b other → IsAnswer net here b (not one.negated)
-answer_in_arms {net} {here} {known} left right b one other n arms f z e first second =
-    let constant : (v : ℕ → Bool) → holds v net one ≡ not one.negated = λ v. sign_known v net (record { node = 0; negated = false }) one true (sym z) ((means_yes net n).is v) ∙ plain_sign (beq false one.negated) ∙ plain_not one.negated in
-    record {
-      is = λ v h.
-          in_an_arm here left right v (holds v net left) (holds v net right) h refl refl (arms.is here f v h) first second (constant v) (ap (holds v net) e ∙ constant v);
-    }
+-- a bit that is a constant wherever a condition is met
+pub answer_constant : {net : List NetNode} {here : Condition} {b : Bit} (c : Bit) → IsNet net → c.node ≡ 0 → IsAlike net here b c → IsAnswer net here b (not c.negated)
+answer_constant {net} {here} {b} c n z like = record {
+  is = λ v h.
+      like.is v h ∙ sign_known v net (record { node = 0; negated = false }) c true (sym z) ((means_yes net n).is v) ∙ plain_sign (beq false c.negated) ∙ plain_not c.negated;
+}
+
+by_either : (one other x y r value_is : Bool) → one ≡ x → other ≡ y → (x || y) ≡ true → (one ≡ true → r ≡ value_is) → (other ≡ true → r ≡ value_is) → r ≡ value_is
+by_either one other true y r value_is e f h first second = first e
+by_either one other false true r value_is e f h first second = second f
+by_either one other false false r value_is e f h first second = cc
+
+-- ---- arms
+pub of_two_constants : (x y : Bool) → x ≡ y → IsOfArms (Constant x) (Constant y) x
+of_two_constants x y e = λ net b one other first second.
+    record { is = λ v h. by_either (one v) (other v) (one v) (other v) (holds v net b) x refl refl h (λ k. first.is v k) (λ k. second.is v k ∙ sym e) }
+
+pub of_second_constant : (x : Bool) → IsOfArms Never (Constant x) x
+of_second_constant x = λ net b one other first second. record { is = λ v h. by_either (one v) (other v) (one v) (other v) (holds v net b) x refl refl h (λ k. absurd (first v k)) (λ k. second.is v k) }
+
+pub of_first_constant : (x : Bool) → IsOfArms (Constant x) Never x
+of_first_constant x = λ net b one other first second. record { is = λ v h. by_either (one v) (other v) (one v) (other v) (holds v net b) x refl refl h (λ k. first.is v k) (λ k. absurd (second v k)) }
+
+both_arms : (h x y : Bool) → h ≡ true → (x || y) ≡ true → ((h && x) || (h && y)) ≡ true
+both_arms true x y e f = f
+both_arms false x y e f = e
+
+-- a bit whose value is known in both arms
+pub answer_in_arms : {net : List NetNode} {here : Condition} {known : List Bit} {value_is : Bool} (left right b : Bit) → AreArms net known left right → AllFollow net here known
+    → IsAnswer net (λ v. (here v && holds v net left) || (here v && holds v net right)) b value_is → IsAnswer net here b value_is
+answer_in_arms {net} {here} left right b arms f answer = record { is = λ v h. answer.is v (both_arms (here v) (holds v net left) (holds v net right) h (arms.is here f v h)) }
 
 left_decides : (x y : Bool) → x ≡ false → (x && y) ≡ x
 left_decides false y e = refl
@@ -131,14 +148,27 @@ same_order {net} {words} {here} {w} {a} {b} {c} {d} {p} o z =
     let none : (v : ℕ → Bool) → here v ≡ true → Same w (value (unknown v net words) p) 0 = λ v h. zero_same (zero_of (value (unknown v net words) p % 2 ^ w) (z.is v h)) in
     record { lesser = λ v h. o.lesser (unknown v net words) (truths v net words) (none v h); greater = λ v h. o.greater (unknown v net words) (truths v net words) (none v h) }
 
--- the value of a bit that tells an order which is a known one
-pub answer_order : {net : List NetNode} {words : List (List Bit)} {here : Condition} {b : Bit} (o : Order) (k : Known) → IsOrderOf net words o.width o.lesser o.greater o.bit → IsKnown net words here k
-    → k.width ≡ o.width → IsSameOrder net words here o.width o.lesser o.greater k.lesser k.greater → o.bit.node ≡ b.node → IsAnswer net here b (beq k.is_less (beq o.bit.negated b.negated))
-answer_order {net} {words} {here} {b} o k order known w same n =
-    let here_known = subst (λ x. IsOrderWhere net words here x k.lesser k.greater k.is_less) w known in
+-- an order of the same numbers as a known one
+pub value_of_same : {net : List NetNode} {words : List (List Bit)} {here : Condition} {w : ℕ} {a b : List Term} (k : Known) → k.width ≡ w → IsSameOrder net words here w a b k.lesser k.greater
+    → IsKnown net words here k → IsValueWhere net words here w a b k.is_less
+value_of_same {net} {words} {here} {w} {a} {b} k e same known =
+    let at_width = subst (λ x. IsOrderWhere net words here x k.lesser k.greater k.is_less) e known in
     record {
       is = λ v h.
           let f = unknown v net words in
-          sign_known v net o.bit b k.is_less n
-          (sym (order.is v) ∙ ap (λ x. nat_lt x (value f o.greater % 2 ^ o.width)) (same.lesser v h).is ∙ ap (λ x. nat_lt (value f k.lesser % 2 ^ o.width) x) (same.greater v h).is ∙ here_known.is v h);
+          ap (λ x. nat_lt x (value f b % 2 ^ w)) (same.lesser v h).is ∙ ap (λ x. nat_lt (value f k.lesser % 2 ^ w) x) (same.greater v h).is ∙ at_width.is v h;
     }
+
+-- a comparison of what is left of two polynomials
+pub value_of_rests : {net : List NetNode} {words : List (List Bit)} {here : Condition} {w : ℕ} {a b c d : List Term} {is : Bool} → IsRest net words here w a c → IsRest net words here w b d
+    → IsValueWhere net words here w c d is → IsValueWhere net words here w a b is
+value_of_rests {net} {words} {here} {w} {a} {b} {c} {d} one other value_is = record {
+  is = λ v h.
+      let f = unknown v net words in
+      ap (λ x. nat_lt x (value f b % 2 ^ w)) (one.is v h).is ∙ ap (λ x. nat_lt (value f c % 2 ^ w) x) (other.is v h).is ∙ value_is.is v h;
+}
+
+-- the value of a bit that tells an order
+pub answer_order : {net : List NetNode} {words : List (List Bit)} {here : Condition} {b : Bit} {is : Bool} (o : Order) → IsOrderOf net words o.width o.lesser o.greater o.bit
+    → IsValueWhere net words here o.width o.lesser o.greater is → o.bit.node ≡ b.node → IsAnswer net here b (beq is (beq o.bit.negated b.negated))
+answer_order {net} {words} {here} {b} {is} o order known n = record { is = λ v h. sign_known v net o.bit b is n (sym (order.is v) ∙ known.is v h) }

@@ -18,7 +18,7 @@ use Rattle.circuits.specs.declared.zeros.Zero.{Zero}
 use Rattle.circuits.specs.Net.{holds, opposite, IsIn, IsNet, Means}
 use Rattle.circuits.specs.Numbers.{digit, AreIn}
 use Rattle.circuits.specs.Words.{unknown, bits_of, AreWords, AreZeros, IsWord, IsZero, IsZeroOf}
-use Rattle.circuits.specs.Facts.{Condition, AllFollow, AreArms, AreFacts, AreParted, IsAnswer, IsBoth, IsConjoined, IsDigit, IsEither, IsFact, IsLeftOut, IsRest, IsTruthFact, IsZeroWhere}
+use Rattle.circuits.specs.Facts.{Condition, AllFollow, AreArms, AreFacts, AreParted, IsAnswer, IsBoth, IsConjoined, IsDigit, IsDisjunction, IsEither, IsFact, IsLeftOut, IsNowhere, IsRest, IsTruthFact, IsZeroWhere}
 use Rattle.circuits.proofs.Nodes.{and_arguments, and_swapped, means_found, found}
 use Rattle.circuits.proofs.Nets.{holds-opposite, means_by, means_yes, opp}
 use Rattle.circuits.proofs.Unknowns.{factor_of, found_word, place_within, product_one, unknown_odd}
@@ -143,18 +143,39 @@ opposites : (x y b : Bool) → not b ≡ (x && y) → b ≡ true → (not x || n
 opposites true y b e f = sym (ap not e) ∙ ap (λ k. not (not k)) f
 opposites false y b e f = refl
 
--- the opposites of what is conjoined in a bit that isn't true
-pub arms_of : {net : List NetNode} {b whole left right l r : Bit} (known : List Bit) (at : ℕ) (d : Bit) → at < length known → b ≡ get_or known at d → whole ≡ opposite b → IsBoth net whole left right
-    → l ≡ opposite left → r ≡ opposite right → AreArms net known l r
-arms_of {net} {b} {whole} {left} {right} {l} {r} known at d lt eb ew both el er = record {
+not_not : (b : Bool) → not (not b) ≡ b
+not_not true = refl
+not_not false = refl
+
+neither : (x y b : Bool) → not b ≡ (x && y) → b ≡ (not x || not y)
+neither true y b e = sym (not_not b) ∙ ap not e
+neither false y b e = sym (not_not b) ∙ ap not e
+
+-- the opposites of what is conjoined in the opposite of a bit
+pub disjunction_of : {net : List NetNode} {b whole left right l r : Bit} → whole ≡ opposite b → IsBoth net whole left right → l ≡ opposite left → r ≡ opposite right → IsDisjunction net b l r
+disjunction_of {net} {b} {whole} {left} {right} {l} {r} ew both el er = record {
   left_in = rw el both.left_in;
   right_in = rw er both.right_in;
-  is = λ here f v h.
-      let true_here : holds v net b ≡ true = ap (holds v net) eb ∙ All-get_or (λ x. holds v net x ≡ true) known at d lt (f.is v h) in
-      ap (λ k. k || holds v net r) (ap (holds v net) el ∙ holds-opposite v net left)
-      ∙ ap (λ k. not (holds v net left) || k) (ap (holds v net) er ∙ holds-opposite v net right)
-      ∙ opposites (holds v net left) (holds v net right) (holds v net b) (sym (holds-opposite v net b) ∙ ap (holds v net) (sym ew) ∙ both.is v) true_here;
+  is = λ v.
+      neither (holds v net left) (holds v net right) (holds v net b) (sym (holds-opposite v net b) ∙ ap (holds v net) (sym ew) ∙ both.is v)
+      ∙ ap (λ k. k || not (holds v net right)) (sym (ap (holds v net) el ∙ holds-opposite v net left))
+      ∙ ap (λ k. holds v net l || k) (sym (ap (holds v net) er ∙ holds-opposite v net right));
 }
+
+-- one at least of what is disjoined in a bit that follows
+pub arms_of : {net : List NetNode} {b l r : Bit} (known : List Bit) (at : ℕ) (d : Bit) → at < length known → b ≡ get_or known at d → IsDisjunction net b l r → AreArms net known l r
+arms_of {net} {b} {l} {r} known at d lt eb either = record {
+  left_in = either.left_in;
+  right_in = either.right_in;
+  is = λ here f v h. sym (either.is v) ∙ ap (holds v net) eb ∙ All-get_or (λ x. holds v net x ≡ true) known at d lt (f.is v h);
+}
+
+-- a bit that follows is false, so no inputs meet the condition
+pub nowhere_of : {net : List NetNode} {here : Condition} (known : List Bit) (at : ℕ) (d b : Bit) → at < length known → b ≡ get_or known at d → AllFollow net here known → IsAnswer net here b false → IsNowhere here
+nowhere_of {net} {here} known at d b lt eb f answer = λ v h.
+    let yes : holds v net b ≡ true = ap (holds v net) eb ∙ All-get_or (λ x. holds v net x ≡ true) known at d lt (f.is v h) in
+    let no : holds v net b ≡ false = answer.is v h in
+    cc
 
 -- ---- answers
 pub at_some : {A : Type 0} (P : A → Type 0) (o : Option A) (x : A) → o ≡ Some x → IfSome o P → P x
@@ -285,14 +306,23 @@ pub facts_pushed : {net : List NetNode} {words : List (List Bit)} {here : Condit
     → AreFacts net words here w (facts ++ p ∷ [])
 facts_pushed {net} {words} {here} {w} {p} facts all f = All-push (λ x. IsFact net words here w x) facts p all f
 
+pub no_facts : {net : List NetNode} {words : List (List Bit)} {here : Condition} {w : ℕ} → AreFacts net words here w []
+no_facts {net} {words} {here} {w} = All-nil (λ x. IsFact net words here w x)
+
 -- what facts leave of a question
 pub rest_where : {net : List NetNode} {words : List (List Bit)} {here : Condition} {facts : List (List Term)} {w : ℕ} {question rest : List Term} → AreFacts net words here w facts
     → IsReduced w facts question rest → IsRest net words here w question rest
 rest_where {net} {words} {here} {facts} {w} {question} {rest} all reduced = record {
+  over = λ o.
+      let n = 2 * length words + 2 in
+      reduced.within n (All-weaker (λ p. IsFact net words here w p) (λ p. AreBelow n p) (λ p k. k.over) facts all) o;
   is = λ v h.
       let f = unknown v net words in
       same_sym (reduced.is f (truths v net words) (All-weaker (λ p. IsFact net words here w p) (λ p. Same w (value f p) 0) (λ p k. k.is v h) facts all));
 }
+
+pub rest_itself : {net : List NetNode} {words : List (List Bit)} {here : Condition} {w : ℕ} {question rest : List Term} → rest ≡ question → IsRest net words here w question rest
+rest_itself {net} {words} {here} {w} {question} {rest} e = record { over = λ o. rw e o; is = λ v h. same_by (ap (value (unknown v net words)) (sym e)) }
 
 -- a question of which a number is left
 pub zero_left : {net : List NetNode} {words : List (List Bit)} {here : Condition} {w c r : ℕ} {question rest : List Term} → w ≤ 64 → IsRest net words here w question rest

@@ -31,3 +31,4 @@ pub mod Ordered
 pub mod OrderLaws
 pub mod DivisionLaw
 pub mod AnswerLaws
+pub mod BoundLaws

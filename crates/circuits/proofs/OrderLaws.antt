@@ -21,7 +21,7 @@ use Rattle.circuits.specs.declared.inequalities.Known.{Known}
 use Rattle.circuits.specs.declared.inequalities.Equality.{Equality}
 use Rattle.circuits.specs.Net.{holds}
 use Rattle.circuits.specs.Words.{unknown, AreOrders, IsOrder, IsOver}
-use Rattle.circuits.specs.Facts.{AllFollow, Condition, IsAnswer, IsFact}
+use Rattle.circuits.specs.Facts.{AllFollow, Condition, IsAnswer, IsFact, IsRest}
 use Rattle.circuits.specs.Inequalities.{IsOrderWhere, IsKnown, AreKnown, AreEqualities, Follows, IsDifference, IsMoreBy}
 use Rattle.circuits.proofs.Congruence.{vanishes}
 use Rattle.circuits.proofs.Unknowns.{product_one}
@@ -30,17 +30,17 @@ use Rattle.circuits.proofs.WordLaws.{truths}
 use Rattle.circuits.proofs.FactLaws.{sign_known}
 
 -- ---- numbers
-no_more : {w a : ℕ} (b : ℕ) → Same w a (b + 0) → a % 2 ^ w ≡ b % 2 ^ w
+pub no_more : {w a : ℕ} (b : ℕ) → Same w a (b + 0) → a % 2 ^ w ≡ b % 2 ^ w
 no_more {w} {a} b s = let e : b + 0 ≡ b = omega arith in s.is ∙ ap (λ k. k % 2 ^ w) e
 
-one_more : {w a : ℕ} (b : ℕ) → Same w a (b + 1) → b % 2 ^ w + 1 < 2 ^ w → a % 2 ^ w ≡ b % 2 ^ w + 1
+pub one_more : {w a : ℕ} (b : ℕ) → Same w a (b + 1) → b % 2 ^ w + 1 < 2 ^ w → a % 2 ^ w ≡ b % 2 ^ w + 1
 one_more {w} {a} b s l = s.is ∙ (same_sym (same_add (same_mod w b) (same_refl w 1))).is ∙ mod-eq_of_lt l
 
 pub same_of_neither : (w a b c d : ℕ) → nat_lt (a % 2 ^ w) (b % 2 ^ w) ≡ false → nat_lt (c % 2 ^ w) (d % 2 ^ w) ≡ false → Same w a (d + 0) → Same w c (b + 0) → Same w a b
 same_of_neither w a b c d h k s t =
     record { is = omega (arith, ltb-false (a % 2 ^ w) (b % 2 ^ w) h, ltb-false (c % 2 ^ w) (d % 2 ^ w) k, no_more d s, no_more b t) }
 
-below_whole : (w a : ℕ) → a % 2 ^ w < 2 ^ w
+pub below_whole : (w a : ℕ) → a % 2 ^ w < 2 ^ w
 below_whole w a = mod_below a (2 ^ w) (pow_pos w)
 
 -- a < b, and b isn't above a + 1
@@ -132,14 +132,18 @@ plain_sign false = refl
 
 -- the order of a bit of a node whose bit is true
 pub order_known : {net : List NetNode} {words : List (List Bit)} {here : Condition} {p q : List Term} (orders : List Order) (at : ℕ) (o : Order) (bit : Bit) → o ≡ get_or orders at o → at < length orders → o.bit.node ≡ bit.node
-    → p ≡ o.lesser → q ≡ o.greater → AreOrders net words orders → IsAnswer net here bit true → IsOrderWhere net words here o.width p q (beq bit.negated o.bit.negated)
-order_known {net} {words} {here} {p} {q} orders at o bit f lt n ep eq all a =
-    let order : IsOrder net words o = subst (λ x. IsOrder net words x) (sym f) (All-get_or (λ x. IsOrder net words x) orders at o lt all) in
-    rw (ep, eq) (record {
-      lesser_over = order.lesser_over;
-      greater_over = order.greater_over;
-      is = λ v h. order.is v ∙ sign_known v net bit o.bit true (sym n) (a.is v h) ∙ plain_sign (beq bit.negated o.bit.negated);
-    })
+    → IsRest net words here o.width o.lesser p → IsRest net words here o.width o.greater q → AreOrders net words orders → IsAnswer net here bit true
+    → IsOrderWhere net words here o.width p q (beq bit.negated o.bit.negated)
+order_known {net} {words} {here} {p} {q} orders at o bit e lt n lesser greater all a =
+    let order : IsOrder net words o = subst (λ x. IsOrder net words x) (sym e) (All-get_or (λ x. IsOrder net words x) orders at o lt all) in
+    record {
+      lesser_over = lesser.over order.lesser_over;
+      greater_over = greater.over order.greater_over;
+      is = λ v h.
+          let f : ℕ → ℕ = unknown v net words in
+          ap (λ x. nat_lt x (value f q % 2 ^ o.width)) (sym (lesser.is v h).is) ∙ ap (λ x. nat_lt (value f o.lesser % 2 ^ o.width) x) (sym (greater.is v h).is)
+          ∙ order.is v ∙ sign_known v net bit o.bit true (sym n) (a.is v h) ∙ plain_sign (beq bit.negated o.bit.negated);
+    }
 
 -- a bit that follows is true
 pub follows_at : {net : List NetNode} {here : Condition} (known : List Bit) (at : ℕ) (d : Bit) → AllFollow net here known → at < length known → IsAnswer net here (get_or known at d) true

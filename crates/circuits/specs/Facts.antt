@@ -18,6 +18,10 @@ pub record AllFollow (net : List NetNode) (here : Condition) (bits : List Bit) :
   pub inside : AreIn net bits
   pub is : (v : ℕ → Bool) → here v ≡ true → All (λ b. holds v net b ≡ true) bits
 
+-- a condition that no inputs meet
+abbrev pub IsNowhere : Condition → Type 0
+IsNowhere here = (v : ℕ → Bool) → here v ≡ true → ⊥
+
 -- the value of a bit wherever a condition is met
 pub record IsAnswer (net : List NetNode) (here : Condition) (b : Bit) (value : Bool) : Type 0 where
   pub is : (v : ℕ → Bool) → here v ≡ true → holds v net b ≡ value
@@ -59,6 +63,12 @@ pub record IsEither (net : List NetNode) (left right b : Bit) : Type 0 where
   pub inside : IsIn net b
   pub is : (v : ℕ → Bool) → holds v net b ≡ (holds v net left || holds v net right)
 
+-- a bit is the disjunction of two
+pub record IsDisjunction (net : List NetNode) (b left right : Bit) : Type 0 where
+  pub left_in : IsIn net left
+  pub right_in : IsIn net right
+  pub is : (v : ℕ → Bool) → holds v net b ≡ (holds v net left || holds v net right)
+
 -- a bit that is true wherever others follow and one is true besides
 pub record IsLeftOut (net : List NetNode) (known : List Bit) (b r : Bit) : Type 0 where
   pub inside : IsIn net r
@@ -72,6 +82,7 @@ pub record AreArms (net : List NetNode) (known : List Bit) (left right : Bit) : 
 
 -- a polynomial over words is another modulo 2^width wherever a condition is met
 pub record IsRest (net : List NetNode) (words : List (List Bit)) (here : Condition) (width : ℕ) (terms rest : List Term) : Type 0 where
+  pub over : IsOver words terms → IsOver words rest
   pub is : (v : ℕ → Bool) → here v ≡ true → Same width (value (unknown v net words) terms) (value (unknown v net words) rest)
 
 -- two pairs with one bit in common, and others that are opposite

@@ -7,8 +7,11 @@ use Rattle.circuits.specs.declared.net.Bit.{Bit}
 use Rattle.circuits.specs.declared.net.NetNode.{NetNode}
 use Rattle.circuits.specs.declared.inequalities.Known.{Known}
 use Rattle.circuits.specs.declared.inequalities.Equality.{Equality}
+use Rattle.circuits.specs.declared.given.Given.{Given}
+use Rattle.circuits.specs.declared.ranges.Range.{Range}
 use Rattle.circuits.specs.Words.{IsOver, unknown}
-use Rattle.circuits.specs.Facts.{Condition, IsFact}
+use Rattle.circuits.specs.Facts.{AllFollow, Condition, IsFact}
+use Rattle.circuits.specs.Ranges.{IsWithin}
 
 -- whether one polynomial over words is less than another, both modulo 2^width, wherever a condition is met
 pub record IsOrderWhere (net : List NetNode) (words : List (List Bit)) (here : Condition) (width : ℕ) (lesser greater : List Term) (value_is : Bool) : Type 0 where
@@ -47,3 +50,21 @@ pub record IsOtherDifference (width : ℕ) (a b c d apart : List Term) : Type 0 
 pub record IsSameOrder (net : List NetNode) (words : List (List Bit)) (here : Condition) (width : ℕ) (a b c d : List Term) : Type 0 where
   pub lesser : (v : ℕ → Bool) → here v ≡ true → Same width (value (unknown v net words) a) (value (unknown v net words) c)
   pub greater : (v : ℕ → Bool) → here v ≡ true → Same width (value (unknown v net words) b) (value (unknown v net words) d)
+
+-- what is given wherever a condition is met
+pub record IsGiven (net : List NetNode) (words : List (List Bit)) (here : Condition) (given : Given) : Type 0 where
+  pub bits : AllFollow net here given.bits.items
+  pub orders : AreKnown net words here given.orders.items
+  pub equalities : AreEqualities net words here given.equalities.items
+
+-- a polynomial over words is in a range, modulo 2^width, wherever a condition is met
+pub record IsWithinWhere (net : List NetNode) (words : List (List Bit)) (here : Condition) (width : ℕ) (terms : List Term) (r : Range) : Type 0 where
+  pub is : (v : ℕ → Bool) → here v ≡ true → IsWithin r (value (unknown v net words) terms % 2 ^ width)
+
+-- one number is more than another by so much less 2^width, wherever a condition is met
+pub record IsShifted (net : List NetNode) (words : List (List Bit)) (here : Condition) (width : ℕ) (p q : List Term) (by : ℕ) : Type 0 where
+  pub is : (v : ℕ → Bool) → here v ≡ true → value (unknown v net words) p % 2 ^ width + 2 ^ width ≡ value (unknown v net words) q % 2 ^ width + by
+
+-- whether one polynomial over words is less than another wherever a condition is met
+pub record IsValueWhere (net : List NetNode) (words : List (List Bit)) (here : Condition) (width : ℕ) (a b : List Term) (value_is : Bool) : Type 0 where
+  pub is : (v : ℕ → Bool) → here v ≡ true → nat_lt (value (unknown v net words) a % 2 ^ width) (value (unknown v net words) b % 2 ^ width) ≡ value_is

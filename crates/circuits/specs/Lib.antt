@@ -6,4 +6,6 @@ pub mod Gates
 pub mod Division
 pub mod Words
 pub mod Facts
+pub mod Ranges
 pub mod Inequalities
+pub mod Arms

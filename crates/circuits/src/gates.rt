@@ -70,6 +70,9 @@ pub fn pick(net: &mut Net, test: Bit, yes: Bit, other: Bit) -> Result<Bit, OutOf
     ensures value { IfOk result (λ r. Means net.new r (λ v. cond (holds v net.old test) (holds v net.old yes)
         (holds v net.old other))) }
 {
+    if yes == other {
+        return Ok(yes);
+    }
     let taken = net.and(test, yes)?;
     let left = net.and(not(test), other)?;
     let picked = or(net, taken, left)?;

@@ -1,14 +1,16 @@
 // Equalities that known orders give: of two numbers that neither is less, and of one between neighbours.
-ghost use Rattle.std.specs.Prelude.{◌≡◌, ℕ, ◌≤◌, ◌<◌, IfOk, IfSome, IsTrue, OnOk, List, length, true, false};
+ghost use Rattle.std.specs.Prelude.{◌≡◌, ◌≤◌, ◌<◌, ◌^◌, IfOk, IfSome, IsTrue, OnOk, List, length, true, false};
 ghost use Rattle.std.specs.List.{All};
 ghost use Rattle.circuits.specs.declared.net.Bit.{Bit};
 ghost use Rattle.circuits.specs.declared.net.NetNode.{NetNode};
-ghost use Rattle.circuits.specs.Words.{AreOrders};
+ghost use Rattle.circuits.specs.Net.{IsNet};
+ghost use Rattle.circuits.specs.Words.{AreTrue, bits_of};
 ghost use Rattle.circuits.specs.Facts.{AllFollow, Condition, IsAnswer};
 ghost use Rattle.circuits.specs.Inequalities.{AreEqualities, AreKnown, Follows, IsDifference, IsKnown, IsMoreBy};
 
-use crate::Bit;
-use crate::orders::Orders;
+use crate::hints::Hints;
+use crate::truths::specialised;
+use crate::{Bit, NetNode};
 use polynomials::{Polynomial, masked};
 use std::alloc::Global;
 use wv_base::OutOfMemory;
@@ -52,6 +54,41 @@ pub fn difference(
     Ok(Some(rest))
 }
 
+// whether polynomials may differ by a number alone: all but their last terms begin alike
+fn may_differ_by_a_number(p: &Polynomial, q: &Polynomial) -> bool {
+    match (p.terms().first(), q.terms().first()) {
+        (Some(x), Some(y)) => {
+            let is_one_a_number = p.terms().len() == 1 || q.terms().len() == 1;
+            p.terms().len().abs_diff(q.terms().len()) <= 1
+                && (is_one_a_number || x.factors == y.factors)
+        }
+        _ => true,
+    }
+}
+
+/// What p is found to be more than q: a number modulo 2^width.
+pub fn offset(
+    alloc: Global,
+    width: u32,
+    p: &Polynomial,
+    q: &Polynomial,
+) -> Result<Option<u64>, OutOfMemory>
+    requires { width ≤ 64 }
+    ensures small { IfOk result (λ r. IfSome r (λ by. by < 2 ^ width)) }
+    ensures more { IfOk result (λ r. IfSome r (λ by. IsMoreBy width by p.now q.now)) }
+{
+    if !may_differ_by_a_number(p, q) {
+        return Ok(None);
+    }
+    let Some(rest) = difference(alloc, width, p, q)? else {
+        return Ok(None);
+    };
+    match rest.as_constant() {
+        Some(constant) => Ok(Some(masked(width, constant))),
+        None => Ok(None),
+    }
+}
+
 /// Whether p is found to be q + by.
 pub fn is_more_by(
     alloc: Global,
@@ -63,11 +100,8 @@ pub fn is_more_by(
     requires { width ≤ 64 }
     ensures { IfOk result (λ r. IsTrue r → IsMoreBy width by p.now q.now) }
 {
-    let Some(rest) = difference(alloc, width, p, q)? else {
-        return Ok(false);
-    };
-    match rest.as_constant() {
-        Some(constant) => Ok(masked(width, constant) == by),
+    match offset(alloc, width, p, q)? {
+        Some(found) => Ok(found == by),
         None => Ok(false),
     }
 }
@@ -154,23 +188,31 @@ fn equality_of(alloc: Global, x: &Known, y: &Known) -> Result<Option<Polynomial>
     }
 }
 
-// the order that a bit which is true tells, or whose opposite it is
-fn known_order(alloc: Global, orders: &Orders, bit: Bit) -> Result<Option<Known>, OutOfMemory>
+// the order that a bit which is true tells, or whose opposite it is, as these bits make it
+fn known_order(
+    nodes: &[NetNode],
+    hints: &Hints,
+    known: &[Bit],
+    bit: Bit,
+) -> Result<Option<Known>, OutOfMemory>
+    requires net { IsNet nodes.now }
+    requires hints { AreTrue nodes.now hints.now }
     ensures narrow { IfOk result (λ r. IfSome r (λ k. k.width ≤ 64)) }
-    ensures known { IfOk result (λ r. IfSome r (λ k. (net : List NetNode) (words : List (List Bit)) (here : Condition)
-        → AreOrders net words orders.now.list.items → IsAnswer net here bit true → IsKnown net words here k)) }
+    ensures known { IfOk result (λ r. IfSome r (λ k. (here : Condition) → AllFollow nodes.now here known.now
+        → IsAnswer nodes.now here bit true → IsKnown nodes.now (bits_of hints.now.words.list.items) here k)) }
 {
-    let Some(at) = orders.of_node(bit.node) else {
+    let Some(at) = hints.orders.of_node(bit.node) else {
         return Ok(None);
     };
-    let order = &orders.list[at];
-    if order.width > 64 || order.bit.node != bit.node {
+    let order = &hints.orders.list[at];
+    let width = order.width;
+    if width > 64 || order.bit.node != bit.node {
         return Ok(None);
     }
-    let lesser = order.lesser.copy(alloc)?;
-    let greater = order.greater.copy(alloc)?;
+    let lesser = specialised(nodes, hints, known, width, &order.lesser)?;
+    let greater = specialised(nodes, hints, known, width, &order.greater)?;
     Ok(Some(Known {
-        width: order.width,
+        width,
         lesser,
         greater,
         is_less: bit.negated == order.bit.negated,
@@ -179,18 +221,20 @@ fn known_order(alloc: Global, orders: &Orders, bit: Bit) -> Result<Option<Known>
 
 /// The orders among these bits and their opposites.
 pub fn known_orders(
-    alloc: Global,
-    orders: &Orders,
+    nodes: &[NetNode],
+    hints: &Hints,
     known: &[Bit],
 ) -> Result<Vec<Known>, OutOfMemory>
+    requires net { IsNet nodes.now }
+    requires hints { AreTrue nodes.now hints.now }
     ensures narrow { IfOk result (λ r. All (λ k. k.width ≤ 64) r.items) }
-    ensures known { IfOk result (λ r. (net : List NetNode) (words : List (List Bit)) (here : Condition)
-        → AreOrders net words orders.now.list.items → AllFollow net here known.now → AreKnown net words here r.items) }
+    ensures known { IfOk result (λ r. (here : Condition) → AllFollow nodes.now here known.now
+        → AreKnown nodes.now (bits_of hints.now.words.list.items) here r.items) }
 {
-    let mut found = Vec::new(alloc);
+    let mut found = Vec::new(hints.alloc);
     for bit in known {
         if found.len() < MOST_KNOWN {
-            if let Some(order) = known_order(alloc, orders, *bit)? {
+            if let Some(order) = known_order(nodes, hints, known, *bit)? {
                 found.push(order)?;
             }
         }
@@ -207,8 +251,9 @@ fn add_equalities(
 ) -> Result<(), OutOfMemory>
     requires inside { at < length known.now }
     requires narrow { All (λ k. k.width ≤ 64) known.now }
-    ensures { OnOk result ((net : List NetNode) (words : List (List Bit)) (here : Condition) → AreKnown net words here known.now
-        → AreEqualities net words here found.old.items → AreEqualities net words here found.new.items) }
+    ensures { OnOk result ((net : List NetNode) (words : List (List Bit)) (here : Condition)
+        → AreKnown net words here known.now → AreEqualities net words here found.old.items
+        → AreEqualities net words here found.new.items) }
 {
     let one = &known[at];
     for later in at + 1..known.len() {
@@ -223,21 +268,15 @@ fn add_equalities(
     Ok(())
 }
 
-/// The equalities that the orders among these bits, and among their opposites, give wherever the bits are true. Where
-/// a limit stands in the way there are fewer.
-pub fn equalities(
-    alloc: Global,
-    orders: &Orders,
-    known: &[Bit],
-) -> Result<Vec<Equality>, OutOfMemory>
+/// The equalities that orders give wherever they are known. Where a limit stands in the way there are fewer.
+pub fn equalities(alloc: Global, known: &[Known]) -> Result<Vec<Equality>, OutOfMemory>
+    requires { All (λ k. k.width ≤ 64) known.now }
     ensures { IfOk result (λ r. (net : List NetNode) (words : List (List Bit)) (here : Condition)
-        → AreOrders net words orders.now.list.items → AllFollow net here known.now
-        → AreEqualities net words here r.items) }
+        → AreKnown net words here known.now → AreEqualities net words here r.items) }
 {
-    let all = known_orders(alloc, orders, known)?;
     let mut found = Vec::new(alloc);
-    for at in 0..all.len() {
-        add_equalities(alloc, &all, at, &mut found)?;
+    for at in 0..known.len() {
+        add_equalities(alloc, known, at, &mut found)?;
     }
     Ok(found)
 }

@@ -1,8 +1,9 @@
 // What bits conjoin, and what follows from it.
-ghost use Rattle.std.specs.Prelude.{◌≡◌, ◌≤◌, ◌&&◌, IfOk, IfSome, List};
+ghost use Rattle.std.specs.Prelude.{◌≡◌, ◌&&◌, IfOk, IfSome, IsTrue, List};
 ghost use Rattle.circuits.specs.declared.net.NetNode.{NetNode};
 ghost use Rattle.circuits.specs.Net.{holds, IsIn, IsNet};
-ghost use Rattle.circuits.specs.Facts.{Condition, AllFollow, AreArms, AreParted, IsAnswer, IsBoth, IsConjoined, IsEither, IsLeftOut};
+ghost use Rattle.circuits.specs.Facts.{Condition, AllFollow, AreArms, AreParted, IsAnswer, IsBoth, IsConjoined};
+ghost use Rattle.circuits.specs.Facts.{IsDisjunction, IsEither, IsLeftOut, IsNowhere};
 
 use crate::hints::Hints;
 use crate::{Bit, NetNode, not};
@@ -36,8 +37,25 @@ pub fn arguments(nodes: &[NetNode], bit: Bit) -> Option<Pair>
     }
 }
 
-/// Bits, and what is conjoined in those from a place on, the nearest first; what tells something of
-/// words stays whole.
+// whether nothing is learned of what is conjoined in a bit of this node: it tells something of words, and that doesn't
+// (where runs are may be what a test of words comes to)
+fn is_whole(nodes: &[NetNode], hints: &Hints, node: u32) -> bool
+    requires { IsNet nodes.now }
+{
+    if !hints.is_test(node) {
+        return false;
+    }
+    let plain = Bit {
+        node,
+        negated: false,
+    };
+    match arguments(nodes, plain) {
+        Some(pair) => !hints.is_test(pair.left.node) && !hints.is_test(pair.right.node),
+        None => true,
+    }
+}
+
+/// Bits, and what is conjoined in those from a place on, the nearest first; what tells something of words stays whole.
 pub fn taken_apart(
     nodes: &[NetNode],
     hints: &Hints,
@@ -55,7 +73,7 @@ pub fn taken_apart(
             break;
         }
         let whole = all[at];
-        if hints.is_test(whole.node) {
+        if is_whole(nodes, hints, whole.node) {
             continue;
         }
         if let Some(pair) = arguments(nodes, whole) {
@@ -94,7 +112,8 @@ fn conjoined(left: Option<bool>, right: Option<bool>) -> Option<bool>
 /// The value that a bit has by what is conjoined in it, or in its opposite.
 pub fn value_by_parts(nodes: &[NetNode], known: &[Bit], depth: u32, bit: Bit) -> Option<bool>
     requires { IsNet nodes.now }
-    ensures { IfSome result (λ r. (here : Condition) → AllFollow nodes.now here known.now → IsAnswer nodes.now here bit r) }
+    ensures { IfSome result (λ r. (here : Condition) → AllFollow nodes.now here known.now
+        → IsAnswer nodes.now here bit r) }
 {
     if let Some(value) = value_among(known, bit) {
         return Some(value);
@@ -153,19 +172,51 @@ pub fn assumed(
     taken_apart(nodes, hints, all, from)
 }
 
-/// Two bits of which one at least is true where those are known: the opposites of what is conjoined in the first opposite
-/// of a conjunction that tells nothing of words.
+/// Whether bits can't all be true: one from a place on is the opposite of one before.
+pub fn is_contradictory(known: &[Bit], from: usize) -> bool
+    ensures { IsTrue result → (net : List NetNode) (here : Condition) → AllFollow net here known.now
+        → IsNowhere here }
+{
+    for at in from..known.len() {
+        if let Some(false) = value_among(known, known[at]) {
+            return true;
+        }
+    }
+    false
+}
+
+// the opposites of what is conjoined in the opposite of a bit, where it isn't known which one is true
+fn arms_of(nodes: &[NetNode], known: &[Bit], bit: Bit) -> Option<Pair>
+    requires { IsNet nodes.now }
+    ensures { IfSome result (λ p. IsDisjunction nodes.now bit p.left p.right) }
+{
+    if !bit.negated {
+        return None;
+    }
+    let pair = arguments(nodes, not(bit))?;
+    let arms = Pair {
+        left: not(pair.left),
+        right: not(pair.right),
+    };
+    match (
+        value_among(known, arms.left),
+        value_among(known, arms.right),
+    ) {
+        (Some(true), _) | (_, Some(true)) => None,
+        _ => Some(arms),
+    }
+}
+
+/// Two bits of which one at least is true where those are known: what is disjoined in the first of these that is a
+/// disjunction and tells nothing of words.
 pub fn arms(nodes: &[NetNode], hints: &Hints, known: &[Bit]) -> Option<Pair>
     requires { IsNet nodes.now }
     ensures { IfSome result (λ p. AreArms nodes.now known.now p.left p.right) }
 {
     for bit in known {
-        if bit.negated && !hints.is_test(bit.node) {
-            if let Some(pair) = arguments(nodes, not(*bit)) {
-                return Some(Pair {
-                    left: not(pair.left),
-                    right: not(pair.right),
-                });
+        if !hints.is_test(bit.node) {
+            if let Some(arms) = arms_of(nodes, known, *bit) {
+                return Some(arms);
             }
         }
     }

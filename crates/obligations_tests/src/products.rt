@@ -94,7 +94,7 @@ int main() {
 ];
 
 // Quotients, orders and ways that come together, whose nets are larger.
-const LARGER: [Case; 3] = [
+const LARGER: [Case; 4] = [
     Case {
         name: "quotients and remainders of both signs",
         source: "\
@@ -178,10 +178,38 @@ int main() {
             (Location, 22, "a * b + q != 20"),
         ],
     },
+    Case {
+        name: "orders of numbers that wrap",
+        source: "\
+void reach_error() { }
+unsigned char __VERIFIER_nondet_uchar();
+int main() {
+  unsigned int a = __VERIFIER_nondet_uchar() & 7;
+  unsigned int b = __VERIFIER_nondet_uchar() & 7;
+  unsigned int s = 0;
+  if (a < b) {
+    s = (a - 3 < b - 3) + 2 * (a + 1 <= b) + 4 * (b - 1 < a) + 8 * (a - 5 < b - 4);
+    if (b <= 4) {
+      s = s + 16 * (a + 4294967291 < b + 4294967291) + 32 * (a - 4 < b - 4);
+    }
+  } else if (a >= 3 && a - 3 < 2) {
+    s = (b - 5 <= a - 5) + 2 * (a < 5) + 4 * (a + 4294967294 < 3) + 8 * (b + 2 < a + 1);
+  }
+  if (s == 3 || s == 6 || s > 40) {
+    reach_error();
+  }
+  return s + 2147483600 > 0;
+}
+",
+        claims: &[
+            (Location, 15, "s < 64 && (a >= b || s != 8)"),
+            (Location, 18, "a - b < 8 || a < b"),
+        ],
+    },
 ];
 
 // Programs whose obligations are decided by words and facts alone.
-const SETTLED: [Case; 11] = [
+const SETTLED: [Case; 14] = [
     Case {
         name: "the same product twice",
         source: "\
@@ -347,6 +375,78 @@ int main() {
     if (i * i != n * (n - 2) + 1) {
       reach_error();
     }
+  }
+  return 0;
+}
+",
+        claims: &[],
+    },
+    Case {
+        name: "numbers within bounds",
+        source: "\
+void reach_error() { }
+int __VERIFIER_nondet_int();
+int main() {
+  int n = __VERIFIER_nondet_int();
+  if (n < 1 || 1000 < n) {
+    return 0;
+  }
+  int s = 0;
+  int i = 1;
+  while (i <= n) {
+    s = s + i;
+    i = i + 1;
+  }
+  if (2 * s != n * (n + 1)) {
+    reach_error();
+  }
+  return 0;
+}
+",
+        claims: &[(Loop, 10, "1 <= i && i <= n + 1 && 2 * s == i * (i - 1)")],
+    },
+    Case {
+        name: "numbers that are counted up and down",
+        source: "\
+void reach_error() { }
+int __VERIFIER_nondet_int();
+int main() {
+  int n = __VERIFIER_nondet_int();
+  int k = 0;
+  int i = 0;
+  while (i < n) {
+    i = i + 1;
+    k = k + 1;
+  }
+  int j = n;
+  while (j > 0) {
+    if (k <= 0) {
+      reach_error();
+    }
+    j = j - 1;
+    k = k - 1;
+  }
+  return 0;
+}
+",
+        claims: &[
+            (Loop, 7, "k == i && i >= 0 && (i <= n || i == 0)"),
+            (Loop, 12, "j <= 0 || k == j"),
+        ],
+    },
+    Case {
+        name: "bounds of a number that is a test, too",
+        source: "\
+void reach_error() { }
+unsigned int __VERIFIER_nondet_uint();
+int main() {
+  unsigned int a = __VERIFIER_nondet_uint();
+  if (a >= 1000) {
+    return 0;
+  }
+  int z = 6;
+  if (z != 6 || a + 1 > 1000 || a + 5 < 5) {
+    reach_error();
   }
   return 0;
 }

@@ -1,6 +1,4 @@
-use Rattle.std.proofs.Common.{◌<◌, length, sym, ap, subst}
-use Rattle.circuits.specs.Net.{IsIn}
-use Rattle.circuits.proofs.AnswerLaws.{alike_itself, opposite_like, part_like}
+use Rattle.circuits.proofs.AnswerLaws.{opposite_like}
 use Rattle.circuits.proofs.answers.part_of.Goals as goal
 
 pub returns-then-whole : goal.returns-then-whole

@@ -1,13 +1,13 @@
-use Rattle.std.proofs.Common.{◌&&◌, sym}
+use Rattle.std.proofs.Common.{◌&&◌}
+use Rattle.std.proofs.lemmas.Option.{IfSome_then}
 use Rattle.circuits.specs.Net.{holds}
-use Rattle.circuits.proofs.Unknowns.{bits_decide}
 use Rattle.circuits.proofs.AnswerLaws.{answer_in_arms}
 use Rattle.circuits.proofs.answers.value_in_arms.Goals as goal
 
-pub returns-then-eq : goal.returns-then-eq
-returns-then-eq c = λ here f.
+pub returns : goal.returns
+returns c =
     let net = c.args.nodes.now in
     let arms = c.in-Some.arms in
-    answer_in_arms arms.left arms.right c.args.bit c.in_ok-one.one c.in_ok-other.other c.requires.net c.in-Some.ensures f c.if-one-ne0.false ((bits_decide _ _).0 (sym c.if-eq.ensures))
-    (c.in_ok-one.ensures (λ u. here u && holds u net arms.left) (rw c.deref.ensures.value (c.in_ok-first.ensures here f)))
-    (c.in_ok-other.ensures (λ u. here u && holds u net arms.right) (rw c.deref-2.ensures.value (c.in_ok-second.ensures here f)))
+    IfSome_then c.value_of_arms.result c.value_of_arms.ensures (λ value is here f.
+    answer_in_arms arms.left arms.right c.args.bit c.in-Some.ensures (rw c.deref.ensures.value f.bits)
+    (is net c.args.bit (λ v. here v && holds v net arms.left) (λ v. here v && holds v net arms.right) (c.in_ok-first.ensures here f) (c.in_ok-second.ensures here f)))

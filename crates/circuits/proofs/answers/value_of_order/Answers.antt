@@ -1,18 +1,20 @@
-use Rattle.std.proofs.Common.{arith, subst, sym}
+use Rattle.std.proofs.Common.{subst, sym}
 use Rattle.std.proofs.lemmas.List.Elements.{All-get_or}
-use Rattle.circuits.specs.declared.inequalities.Known.{Known}
-use Rattle.circuits.specs.declared.orders.Order.{Order}
 use Rattle.circuits.specs.Words.{IsOrder, bits_of}
-use Rattle.circuits.specs.Inequalities.{IsKnown}
-use Rattle.circuits.proofs.AnswerLaws.{answer_order}
+use Rattle.circuits.specs.Facts.{Condition}
+use Rattle.circuits.specs.Inequalities.{IsGiven, IsValueWhere}
+use Rattle.circuits.proofs.FactLaws.{at_some}
+use Rattle.circuits.proofs.AnswerLaws.{answer_order, value_of_rests}
 use Rattle.circuits.proofs.answers.value_of_order.Goals as goal
 
-pub returns-then-branch : goal.returns-then-branch
-returns-then-branch c = λ here f.
+pub returns-in-Some : goal.returns-in-Some
+returns-in-Some c = λ here f.
     let net = c.args.nodes.now in
     let words = bits_of c.args.hints.now.words.list.items in
-    let order : IsOrder net words c.index-order.result.now =
-    subst (λ o. IsOrder net words o) (sym c.index-order.ensures) (All-get_or (λ o. IsOrder net words o) c.args.hints.now.orders.list.items c.args.at c.index-order.result.now c.requires.inside c.requires.hints.orders) in
-    let known : IsKnown net words here c.index-other.result.now =
-    subst (λ k. IsKnown net words here k) (sym c.index-other.ensures) (All-get_or (λ k. IsKnown net words here k) c.in_ok-others.others.items c.loop-i.i c.index-other.result.now (omega (arith, c.loop-i-test.true, c.len-i-end.ensures)) (c.in_ok-others.ensures.known net words here c.requires.hints.orders f)) in
-    answer_order c.index-order.result.now c.index-other.result.now order known (c.in_ok-is_same_order.ensures.wide c.if-branch.true) (c.in_ok-is_same_order.ensures.same c.if-branch.true here f) c.if-order-bit.false
+    let o = c.index-order.result.now in
+    let order : IsOrder net words o =
+    subst (λ x. IsOrder net words x) (sym c.index-order.ensures) (All-get_or (λ x. IsOrder net words x) c.args.hints.now.orders.list.items c.args.at o c.requires.inside c.requires.hints.orders) in
+    let lesser = c.in_ok-specialised.ensures here (rw c.deref.ensures.value f.bits) in
+    let greater = c.in_ok-specialised-2.ensures here (rw c.deref-2.ensures.value f.bits) in
+    let values = at_some (λ is. (h : Condition) → IsGiven net words h c.args.given.now → IsValueWhere net words h o.width _ _ is) _ _ c.in-Some.is c.in_ok-is.ensures in
+    answer_order o order (value_of_rests lesser greater (values here f)) c.if-order-bit.false

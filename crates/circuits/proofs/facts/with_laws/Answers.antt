@@ -1,4 +1,3 @@
-use Rattle.circuits.specs.Facts.{IsFact}
 use Rattle.circuits.proofs.FactLaws.{facts_pushed}
 use Rattle.circuits.proofs.facts.with_laws.Goals as goal
 use Rattle.circuits.proofs.facts.with_laws.Goals.{in-Some+then-len-lt-MOST_OTHERS+then-is_about+in_ok-add_unknowns+in_ok-copy+in_ok-push, in-Some+else-len-lt-MOST_OTHERS, in_default}

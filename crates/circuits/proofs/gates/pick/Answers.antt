@@ -1,5 +1,5 @@
 use Rattle.std.proofs.Common.{arith}
-use Rattle.circuits.proofs.Nets.{own, kept, opp, and_of, three}
+use Rattle.circuits.proofs.Nets.{own, kept, opp, and_of, grown_not, three}
 use Rattle.circuits.proofs.Composing.{or_of, pick_made}
 use Rattle.circuits.proofs.gates.pick.Goals as goal
 
@@ -14,3 +14,6 @@ returns-in_err-picked-clause-grown c = three 3 c.in_ok-taken.ensures.grown c.in_
 
 pub returns-clause-grown : goal.returns-clause-grown
 returns-clause-grown c = three 3 c.in_ok-taken.ensures.grown c.in_ok-left.ensures.grown c.in_ok-picked.ensures.grown (omega arith)
+
+pub returns-then-eq-clause-grown : goal.returns-then-eq-clause-grown
+returns-then-eq-clause-grown c = grown_not 3 c.args.net.now

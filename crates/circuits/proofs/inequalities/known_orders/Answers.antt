@@ -11,8 +11,8 @@ loop-bit-preserved c = elim c.if-len-lt-MOST_KNOWN.branch [
       let known = at_some _ _ _ w.in-Some.is w.in_ok-order.ensures.known in
       rw (w.found-is, w.in_ok-push.ensures.items) (
         narrow_pushed c.loop-bit.found.items _ c.loop-bit.invariant.0 narrow,
-        (λ net words here all f.
-            known_pushed c.loop-bit.found.items _ (c.loop-bit.invariant.1 net words here all f) (known net words here all (follows_at c.args.known.now c.loop-bit.bit-index _ f c.loop-bit-test.true))),
+        (λ here f.
+            known_pushed c.loop-bit.found.items _ (c.loop-bit.invariant.1 here f) (known here f (follows_at c.args.known.now c.loop-bit.bit-index _ f c.loop-bit-test.true))),
       )
   | then-len-lt-MOST_KNOWN+in_ok-order+in_default w ↦ rw w.found-is c.loop-bit.invariant
   | else-len-lt-MOST_KNOWN w ↦ rw w.found-is c.loop-bit.invariant

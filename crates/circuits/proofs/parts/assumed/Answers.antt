@@ -1,6 +1,5 @@
-use Rattle.std.proofs.Common.{◌≡◌, ◌++◌, ◌∷◌, [], List, ◌&&◌, ◌∙◌, ap, subst, sym}
+use Rattle.std.proofs.Common.{◌≡◌, ◌++◌, ◌∷◌, [], ◌&&◌, ◌∙◌, ap, subst, sym}
 use Rattle.std.proofs.lemmas.Result.{IfOk-weaker}
-use Rattle.circuits.specs.declared.net.Bit.{Bit}
 use Rattle.circuits.specs.Net.{holds}
 use Rattle.circuits.specs.Facts.{Condition, AllFollow}
 use Rattle.circuits.proofs.FactLaws.{follow_assumed, follow_left_out}

@@ -1,4 +1,4 @@
-use Rattle.std.proofs.Common.{sym, subst, true}
+use Rattle.std.proofs.Common.{subst}
 use Rattle.circuits.specs.Facts.{IsAnswer}
 use Rattle.circuits.proofs.FactLaws.{both_swapped, left_out_of}
 use Rattle.circuits.proofs.parts.left_out.Goals as goal

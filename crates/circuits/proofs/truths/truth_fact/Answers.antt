@@ -1,7 +1,7 @@
 use Rattle.std.proofs.Common.{refl}
 use Rattle.circuits.proofs.FactLaws.{truth_is_0, truth_is_1}
-use Rattle.circuits.proofs.facts.truth_fact.Goals as goal
-use Rattle.circuits.proofs.facts.truth_fact.Goals.{else-value-via-then-value+in_ok-add_term+else-not-branch, else-value-via-else-value}
+use Rattle.circuits.proofs.truths.truth_fact.Goals as goal
+use Rattle.circuits.proofs.truths.truth_fact.Goals.{else-value-via-then-value+in_ok-add_term+else-not-branch, else-value-via-else-value}
 
 pub returns : goal.returns
 returns c = elim c.else-value.branch [

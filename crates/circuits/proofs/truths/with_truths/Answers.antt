@@ -1,7 +1,7 @@
 use Rattle.circuits.specs.Facts.{IsTruthFact}
 use Rattle.circuits.proofs.FactLaws.{at_some, facts_pushed, fact_of_truth}
-use Rattle.circuits.proofs.facts.with_truths.Goals as goal
-use Rattle.circuits.proofs.facts.with_truths.Goals.{in-Some+in-Some-value_by_parts+in_ok-fact+in-Some-2+in_ok-push, in-Some+in-Some-value_by_parts+in_ok-fact+in_default-2, in-Some+in_default-value_by_parts, in_default}
+use Rattle.circuits.proofs.truths.with_truths.Goals as goal
+use Rattle.circuits.proofs.truths.with_truths.Goals.{in-Some+in-Some-value_by_parts+in_ok-fact+in-Some-2+in_ok-push, in-Some+in-Some-value_by_parts+in_ok-fact+in_default-2, in-Some+in_default-value_by_parts, in_default}
 
 pub loop-at-preserved : goal.loop-at-preserved
 loop-at-preserved c = λ here f facts. elim c.match-digit.branch [

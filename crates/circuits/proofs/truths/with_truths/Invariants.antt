@@ -1,7 +1,6 @@
-use Rattle.circuits.specs.declared.net.Bit.{Bit}
 use Rattle.circuits.specs.Words.{bits_of}
 use Rattle.circuits.specs.Facts.{Condition, AllFollow, AreFacts}
-use Rattle.circuits.proofs.facts.with_truths.Given as goal
+use Rattle.circuits.proofs.truths.with_truths.Given as goal
 
 abbrev pub invariant-loop-at : goal.invariant-loop-at
 invariant-loop-at l =
