@@ -5,7 +5,7 @@ ghost use Rattle.sat_core.specs.Answers.{IsAnswer};
 use crate::check::{is_model, is_refutation};
 use crate::plain::solve_plainly;
 use clauses::{Cnf, Refutation};
-use sat_newness::is_spent;
+use sat_newness::{Kept, find_spent};
 use sat_search::{Outcome, find};
 use std::alloc::Global;
 use wv_base::{OutOfMemory, Seq};
@@ -20,16 +20,15 @@ pub enum Answer {
 }
 
 // what a search finds, where it stands the check
-fn find_checked(
+fn checked(
     alloc: Global,
     cnf: &Cnf,
+    outcome: Outcome,
     budget: u64,
-    keeps: bool,
 ) -> Result<Option<Answer>, OutOfMemory>
-    requires { budget ≤ 2 ^ 30 }
     ensures { IfOk result (λ r. IfSome r (λ a. IsAnswer cnf.now.variables cnf.now.clauses budget a)) }
 {
-    match find(alloc, cnf, budget, keeps)? {
+    match outcome {
         Outcome::Model(values) => {
             if is_model(cnf, values.as_slice()) {
                 return Ok(Some(Answer::Model(values)));
@@ -40,14 +39,20 @@ fn find_checked(
                 return Ok(Some(Answer::Refuted(log)));
             }
         }
-        Outcome::Spent(log, asserting) => {
-            if is_spent(alloc, cnf, &log, asserting, budget)? {
-                return Ok(Some(Answer::Spent(log)));
-            }
-        }
         Outcome::Nothing => {}
     }
     Ok(None)
+}
+
+// what a search that keeps all clauses finds, where it stands the check
+fn find_keeping(alloc: Global, cnf: &Cnf, budget: u64) -> Result<Option<Answer>, OutOfMemory>
+    requires { budget ≤ 2 ^ 30 }
+    ensures { IfOk result (λ r. IfSome r (λ a. IsAnswer cnf.now.variables cnf.now.clauses budget a)) }
+{
+    match find_spent(alloc, cnf, budget)? {
+        Kept::Spent(log) => Ok(Some(Answer::Spent(log))),
+        Kept::Other(outcome) => checked(alloc, cnf, outcome, budget),
+    }
 }
 
 /// Decides whether values of the variables satisfy every clause, by deriving at most `budget` clauses.
@@ -60,10 +65,11 @@ pub fn solve(alloc: Global, cnf: &Cnf, budget: u64) -> Result<Answer, OutOfMemor
     ensures { IfOk result (λ r. IsAnswer cnf.now.variables cnf.now.clauses budget r) }
 {
     // a search that drops clauses decides more; one that keeps them all shows that each is new
-    if let Some(answer) = find_checked(alloc, cnf, budget, false)? {
+    let outcome = find(alloc, cnf, budget)?;
+    if let Some(answer) = checked(alloc, cnf, outcome, budget)? {
         return Ok(answer);
     }
-    match find_checked(alloc, cnf, budget, true)? {
+    match find_keeping(alloc, cnf, budget)? {
         Some(answer) => Ok(answer),
         None => solve_plainly(alloc, cnf, budget),
     }

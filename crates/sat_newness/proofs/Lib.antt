@@ -4,3 +4,4 @@ pub mod Logs
 pub mod Closed
 pub mod Settled
 pub mod Left
+pub mod Longer

@@ -1,11 +1,10 @@
 -- Pairs of numbers, and the clauses that they settle.
-use Rattle.std.proofs.Common.{◌≡◌, ◌≢◌, ℕ, zero, suc, ◌+◌, ◌-◌, ◌^◌, ◌<◌, ◌≤◌, ◌⊎◌, inl, inr, Some, List, [], ◌∷◌, ◌++◌, length, take, ℤ, sym, ◌∙◌, ap, subst, arith}
+use Rattle.std.proofs.Common.{◌≡◌, ◌≢◌, ℕ, ◌+◌, ◌-◌, ◌^◌, ◌<◌, ◌≤◌, ◌⊎◌, inl, inr, Some, List, [], ◌∷◌, ◌++◌, length, ℤ, sym, ◌∙◌, ap, subst, arith}
 use Rattle.std.specs.Prelude.{slice_get, slice_set, slice_index}
 use Rattle.std.specs.List.{Contains}
 use Rattle.std.proofs.lemmas.Bool.{cases_lt}
-use Rattle.std.proofs.lemmas.Option.{none-some, same_Some, slice_get_within, get_or_from_slice_get}
-use Rattle.std.proofs.lemmas.List.Elements.{Contains-append_cases}
-use Rattle.std.proofs.Math.Seq.{take-suc}
+use Rattle.std.proofs.lemmas.Option.{same_Some, slice_get_within}
+use Rattle.std.proofs.lemmas.List.{length-append, length-map}
 use Rattle.std.proofs.Math.Nat.{pow-le-pow_right}
 use Rattle.clauses.specs.declared.log.Chain.{Chain}
 use Rattle.clauses.specs.Log.{given}
@@ -15,7 +14,7 @@ use Rattle.sat_newness.specs.Clauses.{clauses_of}
 use Rattle.sat_newness.specs.Weights.{code, weight, IsTable, IsSettled, AreSettled, IsLast}
 use Rattle.sat_newness.specs.Pairs.{HoldsAt, IsPairOf, ArePairs, Settles, IsFound, AreSettledTo}
 use Rattle.sat_newness.proofs.Lists.{get_push, get_append, at_contains, get_set_same, get_set_other}
-use Rattle.sat_newness.proofs.Logs.{new_more, given_more}
+use Rattle.sat_newness.proofs.Logs.{new_more}
 use Rattle.sat_newness.proofs.Closed.{new_by}
 
 -- a pair that settles settles each clause that it is one of
@@ -95,37 +94,18 @@ given_settled table clauses chains h = record {
   each = λ c i. let a = at_contains clauses c i in h.each a.0 c (slice_get_within clauses a.0 c a.1) (get_append clauses (given chains) a.0 c a.1);
 }
 
-get_behind : {A : Type 0} (xs ys : List A) (n : ℕ) (x : A) → slice_get ys n ≡ Some x → slice_get (xs ++ ys) (length xs + n) ≡ Some x
-get_behind [] ys n x e = let z : 0 + n ≡ n = omega arith in ap (slice_get ys) z ∙ e
-get_behind {A} (y ∷ xs) ys n x e = let z : suc (length {A = A} xs) + n ≡ suc (length {A = A} xs + n) = omega arith in ap (slice_get (y ∷ (xs ++ ys))) z ∙ get_behind xs ys n x e
-
--- what the first chains give
-given_at : (chains : List Chain) (count n : ℕ) (c : List ℤ) → slice_get (given (take count chains)) n ≡ Some c → (n < count) × (slice_get (given chains) n ≡ Some c)
-given_at chains zero n c e = absurd (none-some c e)
-given_at [] (suc count) n c e = absurd (none-some c e)
-given_at (x ∷ xs) (suc count) zero c e = (omega arith, e)
-given_at (x ∷ xs) (suc count) (suc n) c e = let h = given_at xs count n c e in (omega (arith, h.0), h.1)
-
-pub first_settled : (table : List ℕ) (clauses : List (List ℤ)) (chains : List Chain) (count : ℕ) → AreSettledTo table (clauses_of clauses chains) (length clauses + count) → AreSettled table (clauses ++ given (take count chains))
-first_settled table clauses chains count h = record {
-  each = λ c i. elim (Contains-append_cases clauses (given (take count chains)) c i) as (λ _. IsSettled table c) [
-    | inl j ↦ let a = at_contains clauses c j in h.each a.0 c (omega (arith, slice_get_within clauses a.0 c a.1)) (get_append clauses (given chains) a.0 c a.1)
-    | inr j ↦
-        let a = at_contains (given (take count chains)) c j in
-        let b = given_at chains count a.0 c a.1 in
-        h.each (length clauses + a.0) c (omega (arith, b.0)) (get_behind clauses (given chains) a.0 c b.1)
-  ];
+-- ---- one new clause more
+all_settled : (table : List ℕ) (clauses : List (List ℤ)) (n : ℕ) → length clauses ≤ n → AreSettledTo table clauses n → AreSettled table clauses
+all_settled table clauses n le h = record {
+  each = λ c i. let a = at_contains clauses c i in h.each a.0 c (omega (arith, slice_get_within clauses a.0 c a.1)) a.1;
 }
 
--- ---- one new clause more
-pub new_next : (table : List ℕ) (clauses : List (List ℤ)) (chains : List Chain) (n : ℕ) (chain : Chain) (x : ℤ) → slice_get chains n ≡ Some chain → IsTable table → IsLast table chain.gives x → AreSettledTo table (clauses_of clauses chains) (length clauses + n) → AreNew clauses (given (take n chains)) → AreNew clauses (given (take (n + 1) chains))
-new_next table clauses chains n chain x at t l s a =
-    let new : IsNew (clauses ++ given (take n chains)) chain.gives = new_by (clauses ++ given (take n chains)) chain.gives x table t (first_settled table clauses chains n s) l in
-    let ne : chain.gives ≢ [] = λ e. let i = subst (λ (c : List ℤ). Contains c x) e l.held in absurd (omega (arith, i.1)) in
-    let more : AreNew clauses (given (take n chains ++ chain ∷ [])) = subst (λ (gs : List (List ℤ)). AreNew clauses gs) (sym (given_more (take n chains) chain)) (new_more clauses (given (take n chains)) chain.gives a ne new) in
-    let one : n + 1 ≡ suc n = omega arith in
-    let whole : take (n + 1) chains ≡ take n chains ++ chain ∷ [] = ap (λ k. take k chains) one ∙ take-suc chains n chain (slice_get_within chains n chain at) ∙ ap (λ x. take n chains ++ x ∷ []) (get_or_from_slice_get chains n chain chain at) in
-    subst (λ (cs : List Chain). AreNew clauses (given cs)) (sym whole) more
+pub new_next : (table : List ℕ) (clauses : List (List ℤ)) (chains : List Chain) (c : List ℤ) (x : ℤ) → IsTable table → IsLast table c x → AreSettledTo table (clauses_of clauses chains) (length clauses + length chains) → AreNew clauses (given chains) → AreNew clauses (given chains ++ c ∷ [])
+new_next table clauses chains c x t l s a =
+    let all : length (clauses_of clauses chains) ≡ length clauses + length chains = length-append clauses (given chains) ∙ ap (λ n. length clauses + n) (length-map chains (λ chain. chain.gives)) in
+    let new : IsNew (clauses_of clauses chains) c = new_by (clauses_of clauses chains) c x table t (all_settled table (clauses_of clauses chains) (length clauses + length chains) (omega (arith, all)) s) l in
+    let ne : c ≢ [] = λ e. let i = subst (λ (d : List ℤ). Contains d x) e l.held in absurd (omega (arith, i.1)) in
+    new_more clauses (given chains) c a ne new
 
 -- ---- a spent log
 pub earned_by : (variables : ℕ) (clauses : List (List ℤ)) (budget k : ℕ) → budget + 2 ≤ 2 ^ (k + 2) → ((j : ℕ) → j ≤ k → Decides j variables clauses → ⊥) → (j : ℕ) → Decides j variables clauses → budget ≤ 2 ^ (j + 1) - 2

@@ -1,3 +1,4 @@
 pub mod Clauses
 pub mod Weights
 pub mod Pairs
+pub mod Kept

@@ -1,6 +1,6 @@
-//! Whether a log is spent. Its promise: where `is_spent` says yes, the log is accepted and has exactly as many chains
-//! as the budget, each clause that it gives is new to unit propagation, and the budget is no more than the variables
-//! that decide the clauses allow.
+//! Logs that are spent. Its promise: where `find_spent` gives a spent log, the log is accepted and has exactly as many
+//! chains as the budget, each clause that it gives is new to unit propagation, and the budget is no more than the
+//! variables that decide the clauses allow.
 #![tactic(auto)]
 
 mod database;
@@ -11,4 +11,4 @@ mod table;
 mod undecided;
 
 pub use database::clause_at;
-pub use spent::is_spent;
+pub use spent::{Kept, find_spent};

@@ -39,7 +39,7 @@ fn settles(table: &[u8], pair: Pair) -> bool
     pair.one != pair.other && at(table, pair.one) as u32 + at(table, pair.other) as u32 >= 2
 }
 
-// two numbers of a clause that settle it; two equal codes where one true number does
+// two numbers of a clause that settle it, a true one with whatever other; two equal codes where it has no other
 fn find_pair(table: &[u8], clause: &Clause) -> Option<Pair>
     ensures { IfSome result (λ p. IsFound table.now clause.now p) }
 {
@@ -47,15 +47,14 @@ fn find_pair(table: &[u8], clause: &Clause) -> Option<Pair>
     for number in clause.numbers() {
         let other = code(*number);
         match open {
-            None => {
-                if at(table, other) > 0 {
-                    open = Some(other);
-                }
-            }
+            None => open = Some(other),
             Some(one) => {
                 let pair = Pair { one, other };
                 if settles(table, pair) {
                     return Some(pair);
+                }
+                if at(table, other) > at(table, one) {
+                    open = Some(other);
                 }
             }
         }

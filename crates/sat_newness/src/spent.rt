@@ -1,11 +1,12 @@
-// Whether a log is spent.
+// Logs that are spent.
 ghost use Rattle.std.specs.Prelude.{◌≡◌, ◌≤◌, ◌^◌, ◌+◌, ◌-◌, ℕ, IsTrue, IfOk};
 ghost use Rattle.clauses.specs.Spent.{IsSpent, Decides};
+ghost use Rattle.sat_newness.specs.Kept.{IsKept};
 
-use crate::newness::are_new;
+use crate::newness::learn_new;
 use crate::undecided::{few_variables, is_undecided};
 use clauses::{Cnf, Refutation, accepts_log};
-use sat_search::{Hints, weights_of_first};
+use sat_search::{Outcome, weights_of_first};
 use std::alloc::Global;
 use wv_base::OutOfMemory;
 
@@ -23,28 +24,28 @@ fn is_earned(alloc: Global, cnf: &Cnf, budget: u64) -> Result<bool, OutOfMemory>
     Ok(undecided)
 }
 
-/// Whether a log is spent at a budget, by hints for the clauses that it gives: the numbers that were asserted when they
-/// were derived.
-pub fn is_spent(
-    alloc: Global,
-    cnf: &Cnf,
-    log: &Refutation,
-    asserting: Vec<i32>,
-    budget: u64,
-) -> Result<bool, OutOfMemory>
+/// What a search that keeps all clauses comes to: a spent log, or something else of which nothing is known.
+#[derive(Drop)]
+pub enum Kept {
+    Spent(Refutation),
+    Other(Outcome),
+}
+
+/// Searches with all clauses kept until a budget is spent, and shows that it is.
+pub fn find_spent(alloc: Global, cnf: &Cnf, budget: u64) -> Result<Kept, OutOfMemory>
     requires { budget ≤ 2 ^ 30 }
-    ensures { IfOk result (λ r. IsTrue r → IsSpent cnf.now.variables cnf.now.clauses log.now.chains budget) }
+    ensures { IfOk result (IsKept cnf.now.variables cnf.now.clauses budget) }
 {
-    if log.chains.len() as u64 != budget {
-        return Ok(false);
+    match learn_new(alloc, cnf, budget)? {
+        Kept::Other(outcome) => Ok(Kept::Other(outcome)),
+        Kept::Spent(log) => {
+            if !is_earned(alloc, cnf, budget)? {
+                return Ok(Kept::Other(Outcome::Nothing));
+            }
+            if !accepts_log(alloc, cnf, &log)? {
+                return Ok(Kept::Other(Outcome::Nothing));
+            }
+            Ok(Kept::Spent(log))
+        }
     }
-    if !is_earned(alloc, cnf, budget)? {
-        return Ok(false);
-    }
-    if !accepts_log(alloc, cnf, log)? {
-        return Ok(false);
-    }
-    let mut hints = Hints::new(alloc, cnf, asserting)?;
-    let fresh = are_new(alloc, &cnf.clauses, &log.chains, &mut hints)?;
-    Ok(fresh)
 }

@@ -33,9 +33,14 @@ impl Arena {
         }
     }
 
-    /// How many clauses there are.
-    pub fn count(&self) -> usize {
-        self.spans.len()
+    /// The index of the last clause.
+    pub fn last(&self) -> u32 {
+        let count = self.spans.len();
+        if 0 < count && count < 1 << 31 {
+            count as u32 - 1
+        } else {
+            NO_CLAUSE
+        }
     }
 
     /// Where the literals of a clause stand.

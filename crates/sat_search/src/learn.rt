@@ -4,7 +4,8 @@ use crate::cells::{at, put};
 use crate::conflict::Mark;
 use crate::lit::Lit;
 use crate::search::Search;
-use wv_base::OutOfMemory;
+use clauses::{Chain, Clause};
+use wv_base::{OutOfMemory, Seq};
 
 const NONE: Lit = Lit { code: 0 };
 
@@ -198,12 +199,19 @@ impl Search {
         Ok(())
     }
 
-    // logs the chain of the learned clause, from the clause at an index
-    fn close_chain(&mut self, start: u32) -> Result<(), OutOfMemory> {
-        for step in self.conflict.steps.as_slice() {
-            self.log.push_step(step.with, step.on)?;
-        }
-        self.log.close(start.wrapping_add(1))
+    // the chain from the clause at an index to the one of these literals, where that is a clause; it holds no more room
+    // than its steps take
+    fn chain(&self, start: u32, clause: u32) -> Result<Option<Chain>, OutOfMemory> {
+        let Some(gives) = Clause::new(self.arena.numbers(self.alloc, clause)?) else {
+            return Ok(None);
+        };
+        let mut steps = Vec::with_capacity(self.alloc, self.conflict.steps.len())?;
+        steps.extend_from_slice(&self.conflict.steps)?;
+        Ok(Some(Chain {
+            start: start.wrapping_add(1),
+            steps: Seq::from_vec(steps),
+            gives,
+        }))
     }
 
     // moves a literal of the highest level of the learned clause, but for its first, to the second place: that level
@@ -223,37 +231,43 @@ impl Search {
         level
     }
 
-    // goes back to where the learned clause is a unit, and makes its first literal true
-    fn go_back(&mut self, asserting: Lit) -> Result<(), OutOfMemory> {
+    // goes back to where the learned clause is a unit: its index
+    fn go_back(&mut self) -> Result<u32, OutOfMemory> {
         let level = self.second_level();
         let clause = self.arena.push(&self.conflict.learned)?;
         self.reduction.add(self.conflict.levels)?;
         self.cancel_until(level)?;
+        Ok(clause)
+    }
+
+    /// Makes the first literal of the clause true that was learned last.
+    pub fn assert_learned(&mut self) -> Result<(), OutOfMemory> {
+        let clause = self.arena.last();
         if self.conflict.learned.len() < 2 {
             let _ = self.assert_unit(clause)?;
             return Ok(());
         }
         self.attach(clause)?;
+        let asserting = at(&self.conflict.learned, 0, NONE);
         self.values.assign(asserting, clause)
     }
 
-    /// Derives a clause from a conflict, logs its chain and goes back.
-    pub fn learn(&mut self, conflict: u32) -> Result<(), OutOfMemory> {
+    /// Derives a clause from a conflict and goes back to where it is a unit: its chain. Until its literal is asserted,
+    /// the values are those that show that the clause is new.
+    pub fn learn(&mut self, conflict: u32) -> Result<Option<Chain>, OutOfMemory> {
         self.conflict.clear();
         self.conflict.learned.push(NONE)?;
         self.meet_clause(conflict, 0)?;
         let Some(asserting) = self.resolve_back()? else {
-            return Ok(());
+            return Ok(None);
         };
         put(&mut self.conflict.learned, 0, asserting);
-        self.asserting.push(asserting.number())?;
         self.minimize()?;
         self.resolve_redundant()?;
         self.resolve_fixed()?;
-        self.close_chain(conflict)?;
-        self.go_back(asserting)?;
+        let clause = self.go_back()?;
         self.order.decay();
-        Ok(())
+        self.chain(conflict, clause)
     }
 
     // resolves the literals of level 0 away, the latest first
@@ -273,12 +287,11 @@ impl Search {
     }
 
     /// Derives the empty clause from a conflict at level 0.
-    pub fn refute(&mut self, conflict: u32) -> Result<(), OutOfMemory> {
+    pub fn refute(&mut self, conflict: u32) -> Result<Option<Chain>, OutOfMemory> {
         self.conflict.clear();
         self.meet_clause(conflict, 0)?;
         self.resolve_fixed()?;
-        self.close_chain(conflict)?;
-        let _ = self.arena.push(&[])?;
-        self.reduction.add(0)
+        let clause = self.arena.push(&[])?;
+        self.chain(conflict, clause)
     }
 }

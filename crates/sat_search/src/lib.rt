@@ -8,7 +8,6 @@ mod conflict;
 mod hints;
 mod learn;
 mod lit;
-mod log;
 mod order;
 mod places;
 mod reduce;
@@ -18,5 +17,5 @@ mod values;
 mod watches;
 
 pub use cells::filled;
-pub use hints::{Hints, weights_of_first};
-pub use search::{Outcome, find};
+pub use hints::weights_of_first;
+pub use search::{Learner, Outcome, Step, find};

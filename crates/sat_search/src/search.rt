@@ -2,17 +2,16 @@
 use crate::arena::{Arena, Span};
 use crate::conflict::Conflict;
 use crate::lit::Lit;
-use crate::log::Log;
 use crate::order::Order;
 use crate::reduce::Reduction;
 use crate::restart::Restart;
 use crate::values::{Value, Values};
 use crate::watches::{Watch, Watches};
-use clauses::{Clause, Cnf, Refutation};
+use clauses::{Chain, Clause, Cnf, Refutation};
 use std::alloc::Global;
 use wv_base::{OutOfMemory, Seq};
 
-/// The whole state of a search: clauses, watches, trail, order, log.
+/// The whole state of a search: clauses, watches, trail, order.
 #[derive(Drop)]
 pub struct Search {
     pub alloc: Global,
@@ -22,13 +21,10 @@ pub struct Search {
     pub values: Values,
     pub order: Order,
     pub conflict: Conflict,
-    pub log: Log,
     pub restart: Restart,
     pub reduction: Reduction,
     /// whether all learned clauses are kept
     pub keeps: bool,
-    /// the number of each learned clause that made it a unit
-    pub asserting: Vec<i32>,
     /// one more than there are variables
     pub many: usize,
 }
@@ -41,7 +37,7 @@ enum Visit {
 }
 
 impl Search {
-    /// A search over these variables, before any clause; `keeps` says whether chains are kept.
+    /// A search over these variables, before any clause; `keeps` says whether all learned clauses are kept.
     pub fn new(alloc: Global, variables: u32, keeps: bool) -> Result<Search, OutOfMemory> {
         Ok(Search {
             alloc,
@@ -51,11 +47,9 @@ impl Search {
             values: Values::new(alloc, variables)?,
             order: Order::new(alloc, variables)?,
             conflict: Conflict::new(alloc, variables)?,
-            log: Log::new(alloc),
             restart: Restart::new(),
             reduction: Reduction::new(alloc),
             keeps,
-            asserting: Vec::new(alloc),
             many: variables as usize + 1,
         })
     }
@@ -119,29 +113,6 @@ impl Search {
             }
         }
         Ok(conflict)
-    }
-
-    /// A clause more, at level 0, which is watched by literals that aren't false.
-    pub fn add_later(&mut self, clause: &Clause) -> Result<(), OutOfMemory> {
-        let index = self.arena.push_given(clause)?;
-        self.reduction.add(0)?;
-        let span = self.arena.span(index);
-        let first = span.start as usize;
-        let mut open = first;
-        for place in first..first + span.count as usize {
-            let literal = self.arena.literal(place);
-            if !self.values.is_false(literal) {
-                let other = self.arena.literal(open);
-                self.arena.set_literal(place, other);
-                self.arena.set_literal(open, literal);
-                open = open.wrapping_add(1);
-            }
-        }
-        if open < first + 2 {
-            let _ = self.assert_unit(index)?;
-            return Ok(());
-        }
-        self.attach(index)
     }
 
     /// Decides a variable, by the value that it had last.
@@ -305,29 +276,6 @@ impl Search {
         Ok(values)
     }
 
-    fn publish(&self) -> Result<Option<Refutation>, OutOfMemory> {
-        self.log.publish(self.alloc, &self.arena, self.given)
-    }
-
-    // all clauses learned, until one is empty or the budget is spent: whether one is
-    fn run(&mut self, budget: u64) -> Result<Found, OutOfMemory> {
-        for _ in 0..budget {
-            let Some(conflict) = self.next_conflict()? else {
-                return Ok(Found::Model);
-            };
-            if self.values.level() == 0 {
-                self.refute(conflict)?;
-                return Ok(Found::Refuted);
-            }
-            self.learn(conflict)?;
-            if self.log.count() as u64 >= budget {
-                break;
-            }
-            self.start_again()?;
-        }
-        Ok(Found::Nothing)
-    }
-
     // goes back to level 0 where it is time, and drops clauses where it is time for that
     fn start_again(&mut self) -> Result<(), OutOfMemory> {
         self.reduction.count();
@@ -341,12 +289,79 @@ impl Search {
     }
 }
 
-/// What the search came to.
-#[derive(Clone, Copy)]
-enum Found {
-    Model,
-    Refuted,
+/// What a search comes to next. Nothing is known of it until it is checked.
+#[derive(Drop)]
+pub enum Step {
+    Model(Seq<bool>),
+    /// the chain of the empty clause
+    Refuted(Chain),
+    /// the chain of a clause that isn't empty
+    Learned(Chain),
     Nothing,
+}
+
+/// A search that learns one clause after the other.
+#[derive(Drop)]
+pub struct Learner {
+    search: Search,
+    /// a given clause without literals that aren't false
+    conflict: Option<u32>,
+    /// whether the literal of the last clause is still to be asserted
+    pending: bool,
+}
+
+impl Learner {
+    /// Before the first clause; `keeps` says whether all learned clauses are kept.
+    pub fn new(alloc: Global, cnf: &Cnf, keeps: bool) -> Result<Learner, OutOfMemory> {
+        let mut search = Search::new(alloc, cnf.variables, keeps)?;
+        let conflict = search.add_all(&cnf.clauses)?;
+        Ok(Learner {
+            search,
+            conflict,
+            pending: false,
+        })
+    }
+
+    /// The weights of the literals: where a clause was learned last, those that show that it is new.
+    pub fn weights(&self) -> &[u8] {
+        self.search.values.weights.as_slice()
+    }
+
+    fn refute(&mut self, conflict: u32) -> Result<Step, OutOfMemory> {
+        match self.search.refute(conflict)? {
+            Some(chain) => Ok(Step::Refuted(chain)),
+            None => Ok(Step::Nothing),
+        }
+    }
+
+    // asserts the literal of the last clause
+    fn go_on(&mut self) -> Result<(), OutOfMemory> {
+        if self.pending {
+            self.pending = false;
+            self.search.assert_learned()?;
+            self.search.start_again()?;
+        }
+        Ok(())
+    }
+
+    /// Searches up to the next clause.
+    pub fn learn(&mut self) -> Result<Step, OutOfMemory> {
+        if let Some(conflict) = self.conflict {
+            return self.refute(conflict);
+        }
+        self.go_on()?;
+        let Some(conflict) = self.search.next_conflict()? else {
+            return Ok(Step::Model(self.search.model()?));
+        };
+        if self.search.values.level() == 0 {
+            return self.refute(conflict);
+        }
+        self.pending = true;
+        match self.search.learn(conflict)? {
+            Some(chain) => Ok(Step::Learned(chain)),
+            None => Ok(Step::Nothing),
+        }
+    }
 }
 
 /// What the search says. Nothing is known of it until it is checked.
@@ -354,31 +369,24 @@ enum Found {
 pub enum Outcome {
     Model(Seq<bool>),
     Refuted(Refutation),
-    /// with the number of each clause that makes it new
-    Spent(Refutation, Vec<i32>),
     Nothing,
 }
 
-/// Looks for values that satisfy every clause, or for a refutation, by at most `budget` conflicts.
-pub fn find(alloc: Global, cnf: &Cnf, budget: u64, keeps: bool) -> Result<Outcome, OutOfMemory> {
-    let mut search = Search::new(alloc, cnf.variables, keeps)?;
-    let found = match search.add_all(&cnf.clauses)? {
-        None => search.run(budget)?,
-        Some(conflict) => {
-            search.refute(conflict)?;
-            Found::Refuted
+/// Looks for values that satisfy every clause, or for a refutation, by at most `budget` conflicts. It drops clauses that
+/// don't help.
+pub fn find(alloc: Global, cnf: &Cnf, budget: u64) -> Result<Outcome, OutOfMemory> {
+    let mut learner = Learner::new(alloc, cnf, false)?;
+    let mut chains = Seq::new(alloc);
+    for _ in 0..budget {
+        match learner.learn()? {
+            Step::Model(values) => return Ok(Outcome::Model(values)),
+            Step::Refuted(chain) => {
+                chains.push(chain)?;
+                return Ok(Outcome::Refuted(Refutation { chains }));
+            }
+            Step::Learned(chain) => chains.push(chain)?,
+            Step::Nothing => break,
         }
-    };
-    match found {
-        Found::Model => Ok(Outcome::Model(search.model()?)),
-        Found::Refuted => match search.publish()? {
-            Some(log) => Ok(Outcome::Refuted(log)),
-            None => Ok(Outcome::Nothing),
-        },
-        Found::Nothing if keeps => match search.publish()? {
-            Some(log) => Ok(Outcome::Spent(log, search.asserting)),
-            None => Ok(Outcome::Nothing),
-        },
-        Found::Nothing => Ok(Outcome::Nothing),
     }
+    Ok(Outcome::Nothing)
 }

@@ -13,6 +13,12 @@ pub enum Value {
     False,
 }
 
+const TRUE: u8 = 2;
+
+const OPEN: u8 = 1;
+
+const FALSE: u8 = 0;
+
 /// Of a variable that has a value: its level, the clause that forced it or `NO_CLAUSE`, and its place on the trail.
 #[derive(Clone, Copy)]
 pub struct Cause {
@@ -30,7 +36,8 @@ const NO_CAUSE: Cause = Cause {
 /// The trail: the variables in the order in which they got their values, with reasons and levels.
 #[derive(Drop)]
 pub struct Values {
-    values: Vec<Value>,
+    /// by code: 2 for a literal that is true, 1 for an open one, 0 for a false one and where no variable is
+    pub weights: Vec<u8>,
     causes: Vec<Cause>,
     pub trail: Vec<Lit>,
     /// where the trail of each level above 0 begins
@@ -45,8 +52,11 @@ impl Values {
     /// No variable has a value.
     pub fn new(alloc: Global, variables: u32) -> Result<Values, OutOfMemory> {
         let many = variables as usize + 1;
+        let mut weights = filled(alloc, 2 * many, OPEN)?;
+        put(&mut weights, 0, FALSE);
+        put(&mut weights, 1, FALSE);
         Ok(Values {
-            values: filled(alloc, 2 * many, Value::Open)?,
+            weights,
             causes: filled(alloc, many, NO_CAUSE)?,
             trail: Vec::new(alloc),
             begins: Vec::new(alloc),
@@ -58,28 +68,23 @@ impl Values {
     /// The value of a literal.
     #[inline(always)]
     pub fn value(&self, literal: Lit) -> Value {
-        at(&self.values, literal.index(), Value::Open)
+        match at(&self.weights, literal.index(), OPEN) {
+            FALSE => Value::False,
+            OPEN => Value::Open,
+            _ => Value::True,
+        }
     }
 
     /// Whether a literal is false.
     #[inline(always)]
     pub fn is_false(&self, literal: Lit) -> bool {
-        matches!(self.value(literal), Value::False)
+        at(&self.weights, literal.index(), OPEN) == FALSE
     }
 
     /// Whether a literal is true.
     #[inline(always)]
     pub fn is_true(&self, literal: Lit) -> bool {
-        matches!(self.value(literal), Value::True)
-    }
-
-    /// How far the values go towards making the literal of a code true: 2 if they do, 1 if it is open.
-    pub fn weight(&self, code: usize) -> u8 {
-        match at(&self.values, code, Value::Open) {
-            Value::True => 2,
-            Value::Open => 1,
-            Value::False => 0,
-        }
+        at(&self.weights, literal.index(), OPEN) == TRUE
     }
 
     /// Whether a variable has a value.
@@ -134,8 +139,8 @@ impl Values {
             reason,
             place: place as u32,
         };
-        put(&mut self.values, literal.index(), Value::True);
-        put(&mut self.values, literal.opposite().index(), Value::False);
+        put(&mut self.weights, literal.index(), TRUE);
+        put(&mut self.weights, literal.opposite().index(), FALSE);
         put(&mut self.causes, literal.variable(), cause);
         self.trail.push(literal)?;
         Ok(())
@@ -154,8 +159,8 @@ impl Values {
     /// Takes back the latest value: its variable.
     pub fn take_back(&mut self) -> Option<u32> {
         let literal = self.trail.pop()?;
-        put(&mut self.values, literal.index(), Value::Open);
-        put(&mut self.values, literal.opposite().index(), Value::Open);
+        put(&mut self.weights, literal.index(), OPEN);
+        put(&mut self.weights, literal.opposite().index(), OPEN);
         put(&mut self.phases, literal.variable(), !literal.is_negative());
         Some(literal.code / 2)
     }
