@@ -19,12 +19,15 @@ pub returns-in-NeverTrue-clause-passed : goal.returns-in-NeverTrue-clause-passed
 returns-in-NeverTrue-clause-passed c x at =
     let o = c.args.obligations.now in
     let b = c.failing_at-bit.result in
-    let never = subst (IsAskedAs o.net b) c.in-NeverTrue.is c.in_ok-values.ensures.asked in
+    let never = subst (IsAskedAs o.net b) c.in-NeverTrue.is c.in_ok-ask.ensures.asked in
     subst (IsNeverTrue o.net) (same_Some b x (c.failing_at-bit.ensures ∙ at)) never
 
-pub shown-judged-requires-clause-on : goal.shown-judged-requires-clause-on
-shown-judged-requires-clause-on c x at =
+pub shown-requires-clause-on : goal.shown-requires-clause-on
+shown-requires-clause-on c x at =
     let o = c.args.obligations.now in
     let b = c.failing_at-bit.result in
-    let on : holds (inputs_of c.in-TrueUnder.values) o.net b ≡ true = subst (IsAskedAs o.net b) c.in-TrueUnder.is c.in_ok-values.ensures.asked in
+    let on : holds (inputs_of c.in-TrueUnder.values) o.net b ≡ true = subst (IsAskedAs o.net b) c.in-TrueUnder.is c.in_ok-ask.ensures.asked in
     ap (λ values. holds (inputs_of values) o.net x) c.as_slice.ensures ∙ ap (holds (inputs_of c.in-TrueUnder.values) o.net) (sym (same_Some b x (c.failing_at-bit.ensures ∙ at))) ∙ on
+
+pub returns-in_ok-judged-in-TrueUnder-clause-passed : goal.returns-in_ok-judged-in-TrueUnder-clause-passed
+returns-in_ok-judged-in-TrueUnder-clause-passed c = c.in_ok-judged-in-TrueUnder.ensures.other c.args.conflicts

@@ -15,5 +15,11 @@ keep-requires-clause-bit_in c =
 pub keep-requires-clause-never : goal.keep-requires-clause-never
 keep-requires-clause-never c =
     let o = c.args.obligations.now in
-    let settled = subst (IsSettledAs c.args.conflicts (program_view c.args.program.now) (placed_view c.args.invariants.now) o c.args.at) c.in-Holds.is c.in_ok-judged.ensures.settled in
+    let settled = subst (IsSettledAs c.args.conflicts (program_view c.args.program.now) (placed_view c.args.invariants.now) o c.args.at) c.in-Holds.is c.in_ok-settle.ensures.settled in
     (settled c.failing_at-bit.result (sym c.failing_at-bit.ensures)).never
+
+pub returns-in-Holds-clause-passed : goal.returns-in-Holds-clause-passed
+returns-in-Holds-clause-passed c b at =
+    let o = c.args.obligations.now in
+    let settled = subst (IsSettledAs c.args.conflicts (program_view c.args.program.now) (placed_view c.args.invariants.now) o c.args.at) c.in-Holds.is c.in_ok-settle.ensures.settled in
+    (settled b at).never

@@ -1,5 +1,4 @@
-use Rattle.std.proofs.Common.{◌≡◌, ◌∙◌, true, subst, sym, ap, rules}
-use Rattle.std.specs.Prelude.{slice_get, Some}
+use Rattle.std.proofs.Common.{◌≡◌, ◌∙◌, true, subst, sym, ap}
 use Rattle.std.proofs.lemmas.Option.{same_Some}
 use Rattle.c_core.specs.View.{program_view}
 use Rattle.c_meaning.specs.Placing.{placed_view}
@@ -15,8 +14,8 @@ pub decide_bit-requires-clause-bit_in : goal.decide_bit-requires-clause-bit_in
 decide_bit-requires-clause-bit_in c =
     inside (program_view c.args.program.now) (placed_view c.args.invariants.now) c.args.obligations.now c.requires.promised c.args.at c.failing_at-bit.result (sym c.failing_at-bit.ensures)
 
-pub shown-judged-requires-clause-on : goal.shown-judged-requires-clause-on
-shown-judged-requires-clause-on c x at =
+pub shown-requires-clause-on : goal.shown-requires-clause-on
+shown-requires-clause-on c x at =
     let o = c.args.obligations.now in
     let b = c.failing_at-bit.result in
     let on : holds (inputs_of c.in-TrueUnder.values) o.net b ≡ true = subst (IsDecidedAs c.args.conflicts o.net b) c.in-TrueUnder.is c.in_ok-log.ensures in
@@ -30,3 +29,6 @@ returns-in-Spent-clause-settled c =
     let on = subst (IsDecidedAs c.args.conflicts o.net b) c.in-Spent.is c.in_ok-log.ensures in
     other_open (program_view c.args.program.now) (placed_view c.args.invariants.now) o c.requires.promised c.args.conflicts c.args.at b c.in-Spent.spent c.undecided.result c.requires.some
     c.requires.before c.requires.within (sym c.failing_at-bit.ensures) on c.undecided.ensures
+
+pub returns-in_ok-judged-in-TrueUnder-clause-settled : goal.returns-in_ok-judged-in-TrueUnder-clause-settled
+returns-in_ok-judged-in-TrueUnder-clause-settled c = c.in_ok-judged-in-TrueUnder.ensures.other c.args.conflicts

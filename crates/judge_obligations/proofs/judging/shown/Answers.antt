@@ -1,4 +1,4 @@
-use Rattle.std.proofs.Common.{◌≡◌, ◌∙◌, get_or, sym, ap, ap₂}
+use Rattle.std.proofs.Common.{◌≡◌, ◌∙◌, get_or, true, ap}
 use Rattle.std.proofs.lemmas.Option.{slice_get-get_or}
 use Rattle.c_core.specs.View.{program_view}
 use Rattle.c_meaning.specs.Placing.{placed_view}
