@@ -324,6 +324,14 @@ rest_where {net} {words} {here} {facts} {w} {question} {rest} all reduced = reco
 pub rest_itself : {net : List NetNode} {words : List (List Bit)} {here : Condition} {w : ℕ} {question rest : List Term} → rest ≡ question → IsRest net words here w question rest
 rest_itself {net} {words} {here} {w} {question} {rest} e = record { over = λ o. rw e o; is = λ v h. same_by (ap (value (unknown v net words)) (sym e)) }
 
+pub rest_then : {net : List NetNode} {words : List (List Bit)} {here : Condition} {w : ℕ} {a b c : List Term} → IsRest net words here w a b → IsRest net words here w b c → IsRest net words here w a c
+rest_then one other = record { over = λ o. other.over (one.over o); is = λ v h. same_trans (one.is v h) (other.is v h) }
+
+pub one_fact : {net : List NetNode} {words : List (List Bit)} {here : Condition} {w : ℕ} {p : List Term} (facts : List (List Term)) (at : ℕ) (d : List Term) → AreFacts net words here w facts → at < length facts → p ≡ get_or facts at d
+    → AreFacts net words here w (p ∷ [])
+one_fact {net} {words} {here} {w} {p} facts at d all lt e =
+    facts_pushed [] no_facts (subst (λ x. IsFact net words here w x) (sym e) (All-get_or (λ x. IsFact net words here w x) facts at d lt all))
+
 -- a question of which a number is left
 pub zero_left : {net : List NetNode} {words : List (List Bit)} {here : Condition} {w c r : ℕ} {question rest : List Term} → w ≤ 64 → IsRest net words here w question rest
     → IsConstant rest c → r ≡ c % 2 ^ w → IsZeroWhere net words here w question (nat_eq r 0)

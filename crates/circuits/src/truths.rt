@@ -146,10 +146,17 @@ pub fn specialised(
         → IsRest nodes.now (bits_of hints.now.words.list.items) here width polynomial.now r) }
 {
     let alloc = hints.alloc;
+    let mut rest = polynomial.copy(alloc)?;
     if highest_truth(polynomial) == 0 {
-        return polynomial.copy(alloc);
+        return Ok(rest);
     }
     let none = Vec::new(alloc);
     let facts = with_truths(alloc, nodes, &hints.words, known, width, polynomial, none)?;
-    reduce(alloc, width, polynomial.copy(alloc)?, facts)
+    // (one after the other: none has the unknown of another)
+    for at in 0..facts.len() {
+        let mut one = Vec::new(alloc);
+        one.push(facts[at].copy(alloc)?)?;
+        rest = reduce(alloc, width, rest, one)?;
+    }
+    Ok(rest)
 }
