@@ -32,14 +32,17 @@ pub fn keep(net: &Net, bit: Bit, folded: &mut FoldedNet) -> Result<(), OutOfMemo
     folded.note_never(net, bit)
 }
 
-// the part of the budget that a copy gets: a bit that isn't decided by it is asked in the net itself, with the whole budget
+// a copy is asked for so many conflicts at most: what holds before may be what its answer follows from
+const FEW: u64 = 50;
+
+// the part of the budget that a copy gets: a bit that isn't decided by it is asked in the net itself, with the whole
 fn part_of(conflicts: u64) -> u64
     requires some { 1 ≤ conflicts }
     requires bounded { conflicts ≤ 1000000 }
     ensures some { 1 ≤ result }
     ensures bounded { result ≤ 1000000 }
 {
-    (conflicts + 3) / 4
+    if conflicts < FEW { conflicts } else { FEW }
 }
 
 // asks the copy of a bit
