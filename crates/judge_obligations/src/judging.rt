@@ -9,13 +9,12 @@ ghost use Rattle.judge_obligations.specs.Deciding.{AreNeverTrue, IsTrueAt};
 ghost use Rattle.judge_obligations.specs.Logged.{IsOther, IsPassedAs, IsPassedUnspent, IsSettledAs, IsSettledUnspent};
 ghost use Rattle.judge_obligations.specs.Verdicts.{AreObligationsOf, IsRightOnInvariants, IsKept, IsDecided};
 
-use crate::asking::{Asked, ask, keep};
+use crate::asking::{Asked, Folding};
 use bit_answers::{Finding, decide_bit, draws_under, is_false};
 use c_core::Program;
 use c_meaning::{Cause, Draw, PlacedInvariant, Verdict};
 use circuits::Bit;
 use clauses::{Refutation, SpentAt};
-use folded_nets::FoldedNet;
 use std::alloc::Global;
 use sym_duties::Obligations;
 use wv_base::{OutOfMemory, Seq};
@@ -150,15 +149,15 @@ fn pass_whole(
     obligations: &Obligations,
     at: usize,
     conflicts: u64,
-    folded: &mut FoldedNet,
+    folding: &mut Folding,
 ) -> Result<Option<Judged>, OutOfMemory>
     requires promised { AreObligationsOf (program_view program.now) (placed_view invariants.now) obligations.now }
     requires within { at < length obligations.now.failing }
     requires before { AreNeverTrue obligations.now.net obligations.now.failing at }
     requires some { 1 ≤ conflicts }
     requires bounded { conflicts ≤ 1000000 }
-    requires follows { Follows obligations.now.net folded.old }
-    ensures follows { OnOk result (Follows obligations.now.net folded.new) }
+    requires follows { Follows obligations.now.net folding.old.folded }
+    ensures follows { OnOk result (Follows obligations.now.net folding.new.folded) }
     ensures passed { IfOk result
         (IsPassedAs conflicts (program_view program.now) (placed_view invariants.now) obligations.now at) }
     ensures decided { IfOk result (λ r. 2 ^ (count_inputs obligations.now.net + 1) - 2 < conflicts
@@ -169,7 +168,7 @@ fn pass_whole(
     let bit = failing_at(obligations, at);
     match settle(alloc, program, invariants, obligations, at, conflicts)? {
         Settled::Holds(_) => {
-            keep(net, bit, folded)?;
+            folding.keep(net, bit)?;
             Ok(None)
         }
         Settled::Ends(judged) => Ok(Some(judged)),
@@ -184,15 +183,15 @@ fn pass(
     obligations: &Obligations,
     at: usize,
     conflicts: u64,
-    folded: &mut FoldedNet,
+    folding: &mut Folding,
 ) -> Result<Option<Judged>, OutOfMemory>
     requires promised { AreObligationsOf (program_view program.now) (placed_view invariants.now) obligations.now }
     requires within { at < length obligations.now.failing }
     requires before { AreNeverTrue obligations.now.net obligations.now.failing at }
     requires some { 1 ≤ conflicts }
     requires bounded { conflicts ≤ 1000000 }
-    requires follows { Follows obligations.now.net folded.old }
-    ensures follows { OnOk result (Follows obligations.now.net folded.new) }
+    requires follows { Follows obligations.now.net folding.old.folded }
+    ensures follows { OnOk result (Follows obligations.now.net folding.new.folded) }
     ensures passed { IfOk result
         (IsPassedAs conflicts (program_view program.now) (placed_view invariants.now) obligations.now at) }
     ensures decided { IfOk result (λ r. 2 ^ (count_inputs obligations.now.net + 1) - 2 < conflicts
@@ -201,7 +200,7 @@ fn pass(
     let net = &obligations.net;
     let _ = net.nodes();
     let bit = failing_at(obligations, at);
-    match ask(alloc, net, bit, conflicts, folded)? {
+    match folding.ask(alloc, net, bit, conflicts)? {
         Asked::NeverTrue => Ok(None),
         Asked::TrueUnder(values) => {
             let judged = shown(
@@ -221,7 +220,7 @@ fn pass(
             obligations,
             at,
             conflicts,
-            folded,
+            folding,
         ),
     }
 }
@@ -246,7 +245,7 @@ pub fn decide(
 {
     let net = &obligations.net;
     let many = obligations.failing.len();
-    let mut folded = FoldedNet::new(alloc, net)?;
+    let mut folding = Folding::new(alloc, net)?;
     for at in 0..many {
         if is_false(net, failing_at(obligations, at)) {
             continue;
@@ -258,7 +257,7 @@ pub fn decide(
             obligations,
             at,
             conflicts,
-            &mut folded,
+            &mut folding,
         )? {
             None => {}
             Some(judged) => return Ok(judged),
