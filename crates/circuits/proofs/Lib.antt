@@ -32,3 +32,4 @@ pub mod OrderLaws
 pub mod DivisionLaw
 pub mod AnswerLaws
 pub mod BoundLaws
+pub mod ChosenLaws

@@ -9,3 +9,4 @@ pub mod Facts
 pub mod Ranges
 pub mod Inequalities
 pub mod Arms
+pub mod Chosen

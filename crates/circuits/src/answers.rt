@@ -287,7 +287,8 @@ fn value_of_whole(
     }
 }
 
-fn constant(value: bool) -> Bit
+/// The constant of a value.
+pub fn constant(value: bool) -> Bit
     ensures { (net : List NetNode) → IsNet net → Means net result (λ v. value) }
 {
     Bit {
@@ -310,8 +311,8 @@ fn decided(left: Bit, right: Bit) -> Option<Bit>
     None
 }
 
-// what is left of a conjunction, or of its opposite, where its parts are as good as these
-fn part_of(whole: Bit, left: Bit, right: Bit) -> Bit
+/// What is left of a conjunction, or of its opposite, where its parts are as good as these.
+pub fn part_of(whole: Bit, left: Bit, right: Bit) -> Bit
     ensures { (net : List NetNode) → IsNet net → (here : Condition) (l r : Bit) → IsIn net whole
         → IsBoth net (record { node = whole.node; negated = false }) l r → IsAlike net here l left
         → IsAlike net here r right → IsAlike net here whole result }

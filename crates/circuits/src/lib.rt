@@ -6,6 +6,7 @@ mod answers;
 mod binary;
 mod bits;
 mod bounds;
+mod chosen;
 mod comparisons;
 mod conversions;
 mod facts;

@@ -4,9 +4,11 @@ ghost use Rattle.polynomials.specs.Values.{Same};
 ghost use Rattle.circuits.specs.declared.net.NetNode.TheVariants.{Constant, Input};
 ghost use Rattle.circuits.specs.Numbers.{number, AreIn};
 ghost use Rattle.circuits.specs.Words.{AreOperands};
+ghost use Rattle.circuits.specs.Chosen.{AreAlike};
 ghost use Rattle.circuits.specs.Net.{holds, opposite, Grown, Means, IsIn, IsNet, IsFolded, Folds, Stands, bit_in, node_in, values_of, count_ands, count_inputs};
 
 use crate::answers::simplified;
+use crate::chosen;
 use crate::hints::Hints;
 use crate::parts::parted;
 use crate::shared::Shared;
@@ -38,10 +40,15 @@ pub struct Net {
     hints: Hints,
     /// how many questions facts may still be asked
     questions: u32,
+    /// how many words may still be settled
+    words: u32,
 }
 
 // so many questions facts are asked for a net; each takes some milliseconds at most
 const MOST_QUESTIONS: u32 = 1000;
+
+// so many words are settled for a net; each takes a tenth of a millisecond at most
+const MOST_SETTLED: u32 = 10_000;
 
 impl Model for Net {
     ghost use Rattle.std.specs.Prelude.{List};
@@ -98,6 +105,7 @@ impl Net {
             shared: Shared::new(alloc),
             hints: Hints::new(alloc),
             questions: MOST_QUESTIONS,
+            words: MOST_SETTLED,
         })
     }
 
@@ -324,7 +332,7 @@ impl Net {
     }
 
     /// The conjunction of where runs are and a bit. Where that bit's value is known there, no node is added; where a part
-    /// of it is, that part is left out.
+    /// of it is, that part is left out, and so is an arm of where runs are that the bit contradicts.
     pub fn under(&mut self, live: Bit, bit: Bit) -> Result<Bit, OutOfMemory>
         requires live_in { IsIn self.old live }
         requires bit_in { IsIn self.old bit }
@@ -334,12 +342,33 @@ impl Net {
         ensures refused { IfErr result (λ e. self.new ≡ self.old) }
     {
         let mut questions = self.questions;
-        let part = simplified(&self.nodes, &self.hints, live, bit, &mut questions);
+        let arm = chosen::narrowed(&self.nodes, &self.hints, live, bit);
+        let part = simplified(&self.nodes, &self.hints, arm, bit, &mut questions);
         self.questions = questions;
         match part {
-            Ok(part) => self.and(live, part),
-            Err(OutOfMemory) => self.and(live, bit),
+            Ok(part) => self.and(arm, part),
+            Err(OutOfMemory) => self.and(arm, bit),
         }
+    }
+
+    /// Bits that have the number of others wherever `live` is true: what is left of a word that tests chose, where these
+    /// are known. No node is added.
+    pub fn settled(
+        &mut self,
+        alloc: Global,
+        live: Bit,
+        bits: &[Bit],
+    ) -> Result<Vec<Bit>, OutOfMemory>
+        requires live_in { IsIn self.old live }
+        requires bits_in { AreIn self.old bits.now }
+        ensures same { self.new ≡ self.old }
+        ensures alike { IfOk result (λ r. AreAlike self.old (λ v. holds v self.old live) bits.now r.items) }
+    {
+        if self.words == 0 {
+            return Ok(bits.to_vec(alloc)?);
+        }
+        self.words -= 1;
+        chosen::settled(&self.nodes, &self.hints, live, bits)
     }
 
     /// Where one of two bits is true. Where they part a bit by a test alone, it is that bit.

@@ -1,0 +1,153 @@
+-- Words that tests chose: what is left of them where the test is known.
+use Rattle.std.proofs.Common.{◌≡◌, ℕ, ◌+◌, ◌*◌, ◌^◌, ◌<◌, Bool, true, false, not, ◌&&◌, ◌||◌, List, [], ◌∷◌, ◌++◌, length, get_or, take, refl, sym, ◌∙◌, ap, ap₂, subst, arith, length-append}
+use Rattle.std.proofs.Math.Bool.{beq}
+use Rattle.std.proofs.lemmas.List.Elements.{All-append, All-cons, All-get_or, All-nil}
+use Rattle.std.proofs.lemmas.List.{take_more, take_all, length-take-le}
+use Rattle.circuits.specs.declared.net.Bit.{Bit}
+use Rattle.circuits.specs.declared.net.NetNode.{NetNode}
+use Rattle.circuits.specs.declared.chosen.Place.{Place}
+use Rattle.circuits.specs.Net.{holds, opposite, IsIn, Means}
+use Rattle.circuits.specs.Numbers.{digit, number, AreIn}
+use Rattle.circuits.specs.Facts.{Condition, AllFollow, AreArms, IsAlike, IsAnswer, IsDisjunction, IsNowhere}
+use Rattle.circuits.specs.Chosen.{AreAlike, IsPlace}
+use Rattle.circuits.proofs.Counting.{in_none, snoc}
+use Rattle.circuits.proofs.FactLaws.{plain_sign, sign_known}
+use Rattle.circuits.proofs.Nets.{holds-opposite}
+
+or_never : (x : Bool) → x ≡ true → (x || false) ≡ true
+or_never x e = ap (λ k. k || false) e
+
+second_of : (x y : Bool) → (x || y) ≡ true → (x ≡ true → ⊥) → y ≡ true
+second_of true y e n = absurd (n refl)
+second_of false y e n = e
+
+first_of : (x y : Bool) → (x || y) ≡ true → (y ≡ true → ⊥) → x ≡ true
+first_of true y e n = refl
+first_of false y e n = absurd (n e)
+
+-- ---- places
+-- no bit is known wherever nothing is
+pub none_follows : (net : List NetNode) (here : Condition) → AllFollow net here []
+none_follows net here = record { inside = in_none (λ b. IsIn net b); is = λ v e. in_none (λ b. holds v net b ≡ true) }
+
+pub lone_place : {net : List NetNode} {here one : Condition} (p : Place) → p.two ≡ false → p.second.items ≡ [] → ((v : ℕ → Bool) → here v ≡ true → one v ≡ true) → AllFollow net one p.first.items → IsPlace net here p
+lone_place {net} {here} {one} p alone none inside f = record {
+  one = one;
+  other = λ v. false;
+  either = λ v h. ap₂ (λ x y. x || (y && false)) (inside v h) alone;
+  first = f;
+  second = rw none (none_follows net (λ v. false));
+}
+
+pub only_second : {here one : Condition} (other : Condition) → ((v : ℕ → Bool) → here v ≡ true → (one v || other v) ≡ true) → IsNowhere one → (v : ℕ → Bool) → here v ≡ true → other v ≡ true
+only_second {here} {one} other e n v h = second_of (one v) (other v) (e v h) (n v)
+
+pub only_first : {here other : Condition} (one : Condition) → ((v : ℕ → Bool) → here v ≡ true → (one v || other v) ≡ true) → IsNowhere other → (v : ℕ → Bool) → here v ≡ true → one v ≡ true
+only_first {here} {other} one e n v h = first_of (one v) (other v) (e v h) (n v)
+
+pub two_places : {net : List NetNode} {here one other : Condition} (p : Place) → p.two ≡ true → ((v : ℕ → Bool) → here v ≡ true → (one v || other v) ≡ true) → AllFollow net one p.first.items → AllFollow net other p.second.items → IsPlace net here p
+two_places {net} {here} {one} {other} p both e f g = record {
+  one = one;
+  other = other;
+  either = λ v h. ap (λ y. one v || (y && other v)) both ∙ e v h;
+  first = f;
+  second = g;
+}
+
+by_places : (one two other x value_is : Bool) → (one || (two && other)) ≡ true → (one ≡ true → x ≡ value_is) → (two ≡ true → other ≡ true → x ≡ value_is) → x ≡ value_is
+by_places true two other x value_is e f g = f refl
+by_places false true other x value_is e f g = g refl e
+by_places false false other x value_is e f g = cc
+
+-- a value in both places, or in the one that there is
+pub answer_at : {net : List NetNode} {here : Condition} {b : Bit} {value_is : Bool} (p : Place) → IsPlace net here p → ((one : Condition) → AllFollow net one p.first.items → IsAnswer net one b value_is)
+    → (p.two ≡ true → (other : Condition) → AllFollow net other p.second.items → IsAnswer net other b value_is) → IsAnswer net here b value_is
+answer_at {net} {here} {b} {value_is} p h first second = record {
+  is = λ v e. by_places (h.one v) p.two (h.other v) (holds v net b) value_is (h.either v e) (λ k. (first h.one h.first).is v k) (λ t k. (second t h.other h.second).is v k);
+}
+
+both_arms : (h x y : Bool) → h ≡ true → (x || y) ≡ true → ((h && x) || (h && y)) ≡ true
+both_arms true x y e f = f
+both_arms false x y e f = e
+
+-- where bits are known, runs are in one of two arms
+pub in_arms : {net : List NetNode} {here : Condition} {known : List Bit} (left right : Bit) → AreArms net known left right → AllFollow net here known
+    → (v : ℕ → Bool) → here v ≡ true → ((here v && holds v net left) || (here v && holds v net right)) ≡ true
+in_arms {net} {here} left right arms f v h = both_arms (here v) (holds v net left) (holds v net right) h (arms.is here f v h)
+
+-- ---- tests
+beq_swapped : (x y : Bool) → beq x y ≡ beq y x
+beq_swapped true true = refl
+beq_swapped true false = refl
+beq_swapped false true = refl
+beq_swapped false false = refl
+
+-- the value of a bit of a test's node
+pub answer_test : {net : List NetNode} {here : Condition} (t b : Bit) → b.node ≡ t.node → IsAnswer net here t true → IsAnswer net here b (beq b.negated t.negated)
+answer_test {net} {here} t b e a = record { is = λ v h. sign_known v net t b true (sym e) (a.is v h) ∙ plain_sign (beq t.negated b.negated) ∙ beq_swapped t.negated b.negated }
+
+-- a bit that is false has an opposite that is true
+pub answer_opposite : {net : List NetNode} {here : Condition} {b : Bit} {value_is : Bool} (r : Bit) → r ≡ opposite b → value_is ≡ false → IsAnswer net here b value_is → IsAnswer net here r true
+answer_opposite {net} {b = b} r e f a = record { is = λ v h. ap (holds v net) e ∙ holds-opposite v net b ∙ ap not (a.is v h ∙ f) }
+
+-- ---- words
+pub alike_words : {net : List NetNode} {here : Condition} (bits : List Bit) → AreIn net bits → AreAlike net here bits bits
+alike_words bits h = record { inside = h; wide = refl; is = λ v e. refl }
+
+pub alike_then : {net : List NetNode} {here : Condition} {a b c : List Bit} → AreAlike net here a b → AreAlike net here b c → AreAlike net here a c
+alike_then x y = record { inside = y.inside; wide = y.wide ∙ x.wide; is = λ v e. x.is v e ∙ y.is v e }
+
+pub alike_none : (net : List NetNode) (here : Condition) (bits : List Bit) → AreAlike net here (take 0 bits) []
+alike_none net here bits = record { inside = in_none (λ b. IsIn net b); wide = refl; is = λ v e. refl }
+
+-- one digit more
+pub alike_next : {net : List NetNode} {here : Condition} {out : List Bit} {i : ℕ} {s : Bit} (bits : List Bit) (d : Bit) → AreAlike net here (take i bits) out → IsAlike net here (get_or bits i d) s → i < length bits
+    → AreAlike net here (take (i + 1) bits) (out ++ s ∷ [])
+alike_next {net} {here} {out} {i} {s} bits d a m lt =
+    let x = get_or bits i d in
+    let w : length (take i bits) ≡ i = length-take-le i bits (omega arith) in
+    rw (take_more bits i d lt) (record {
+      inside = All-append (λ b. IsIn net b) out (s ∷ []) a.inside (All-cons (λ b. IsIn net b) s [] m.inside (in_none (λ b. IsIn net b)));
+      wide = omega (arith, a.wide, length-append out (s ∷ []), length-append (take i bits) (x ∷ []));
+      is = λ v e.
+          snoc v net (take i bits) x i w ∙ ap₂ (λ n t. n + 2 ^ i * digit t) (a.is v e) (m.is v e)
+          ∙ sym (snoc v net out s i (a.wide ∙ w));
+    })
+
+pub alike_end : {net : List NetNode} {here : Condition} {out : List Bit} {n : ℕ} (bits : List Bit) → AreAlike net here (take n bits) out → n ≡ length bits → AreAlike net here bits out
+alike_end {net} {here} {out} {n} bits a e = subst (λ l. AreAlike net here l out) (take_all n bits (omega arith)) a
+
+-- ---- disjunctions of which one arm is left
+no_left : (x y : Bool) → (x ≡ true → ⊥) → (x || y) ≡ y
+no_left true y n = absurd (n refl)
+no_left false y n = refl
+
+no_right : (x y : Bool) → (y ≡ true → ⊥) → (x || y) ≡ x
+no_right true y n = refl
+no_right false true n = absurd (n refl)
+no_right false false n = refl
+
+pub right_left : {net : List NetNode} {here : Condition} {b : Bit} (left right : Bit) → IsDisjunction net b left right → IsNowhere (λ v. here v && holds v net left) → IsAlike net here b right
+right_left {net} left right d n = record { inside = d.right_in; is = λ v h. d.is v ∙ no_left (holds v net left) (holds v net right) (λ k. n v (ap₂ (λ x y. x && y) h k)) }
+
+pub left_left : {net : List NetNode} {here : Condition} {b : Bit} (left right : Bit) → IsDisjunction net b left right → IsNowhere (λ v. here v && holds v net right) → IsAlike net here b left
+left_left {net} left right d n = record { inside = d.left_in; is = λ v h. d.is v ∙ no_right (holds v net left) (holds v net right) (λ k. n v (ap₂ (λ x y. x && y) h k)) }
+
+pub alike_on : {net : List NetNode} {here : Condition} {a b c : Bit} → IsAlike net here a b → IsAlike net here b c → IsAlike net here a c
+alike_on x y = record { inside = y.inside; is = λ v e. x.is v e ∙ y.is v e }
+
+narrowed_value : (l b a p : Bool) → (b ≡ true → l ≡ a) → (a ≡ true → b ≡ p) → (a && p) ≡ (l && b)
+narrowed_value l true true p e f = ap (λ x. true && x) (sym (f refl)) ∙ ap (λ x. x && true) (sym (e refl))
+narrowed_value l true false p e f = ap (λ x. x && true) (sym (e refl))
+narrowed_value true false true p e f = sym (f refl)
+narrowed_value false false true p e f = sym (f refl)
+narrowed_value true false false p e f = refl
+narrowed_value false false false p e f = refl
+
+-- where runs are and a bit, by the arm that it leaves and by what is left of it there
+pub narrowed_means : {net new : List NetNode} {r : Bit} (live bit arm part : Bit) → IsAlike net (λ v. holds v net bit) live arm → IsAlike net (λ v. holds v net arm) bit part → Means new r (λ v. holds v net arm && holds v net part)
+    → Means new r (λ v. holds v net live && holds v net bit)
+narrowed_means {net} live bit arm part x y m = record {
+  inside = m.inside;
+  is = λ v. m.is v ∙ narrowed_value (holds v net live) (holds v net bit) (holds v net arm) (holds v net part) (x.is v) (y.is v);
+}

@@ -1,0 +1,23 @@
+use Rattle.std.proofs.Common.{subst, sym}
+use Rattle.circuits.specs.Net.{holds}
+use Rattle.circuits.specs.Chosen.{AreAlike}
+use Rattle.circuits.proofs.ChosenLaws.{alike_then, alike_words}
+use Rattle.circuits.proofs.chosen.settled.Goals as goal
+
+pub returns-then-not-has_conjunction : goal.returns-then-not-has_conjunction
+returns-then-not-has_conjunction c =
+    let net = c.args.nodes.now in
+    subst (λ l. AreAlike net (λ v. holds v net c.args.live) c.args.bits.now l) (sym (c.in_ok-word.ensures.items_if_clones_equal (λ x y e. e))) (alike_words c.args.bits.now c.requires.bits_in)
+
+pub loop-choice-init : goal.loop-choice-init
+loop-choice-init c =
+    let net = c.args.nodes.now in
+    subst (λ l. AreAlike net (λ v. holds v net c.args.live) c.args.bits.now l) (sym (c.in_ok-word.ensures.items_if_clones_equal (λ x y e. e))) (alike_words c.args.bits.now c.requires.bits_in)
+
+pub loop-choice-preserved : goal.loop-choice-preserved
+loop-choice-preserved c =
+    let net = c.args.nodes.now in
+    alike_then c.loop-choice.invariant (rw c.deref-in-loop-choice.ensures.value at (c.in_ok-word-2.ensures (λ v. holds v net c.args.live) (c.in-Some.ensures (λ v. holds v net c.args.live) c.in_ok-place.ensures)))
+
+pub rest_of_word-requires-clause-word_in : goal.rest_of_word-requires-clause-word_in
+rest_of_word-requires-clause-word_in c = rw c.deref-in-loop-choice.ensures.value c.loop-choice.invariant.inside

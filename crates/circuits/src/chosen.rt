@@ -1,0 +1,292 @@
+// Words that a test chose, where the test is known: what is left of them there.
+ghost use Rattle.std.specs.Prelude.{◌≡◌, ℕ, Bool, ◌||◌, IfOk, IfSome, List, true};
+ghost use Rattle.circuits.specs.declared.net.NetNode.{NetNode};
+ghost use Rattle.circuits.specs.Net.{holds, IsIn, IsNet};
+ghost use Rattle.circuits.specs.Numbers.{AreIn};
+ghost use Rattle.circuits.specs.Facts.{Condition, AllFollow, IsAlike, IsAnswer};
+ghost use Rattle.circuits.specs.Chosen.{AreAlike, IsPlace};
+
+use crate::answers::{constant, part_of};
+use crate::hints::Hints;
+use crate::parts::{
+    arguments, arms, arms_of, assumed, is_contradictory, taken_apart, value_by_parts,
+};
+use crate::{Bit, NetNode, not};
+use std::alloc::Global;
+use wv_base::OutOfMemory;
+
+// a test is looked into so deep
+const DEPTH: u32 = 4;
+
+// a digit of a choice has its test so deep
+const CHOICE: u32 = 2;
+
+// of so many digits at most a test is looked for
+const MOST_DIGITS: usize = 2;
+
+// so often a word, or a disjunction, is what is left of another
+const MOST_CHOICES: usize = 8;
+
+/// Bits that are known where runs are: those of one place, or of either of two.
+#[derive(Drop)]
+pub struct Place {
+    pub first: Vec<Bit>,
+    pub second: Vec<Bit>,
+    pub two: bool,
+}
+
+// one place, where these are known
+fn lone(alloc: Global, known: Vec<Bit>) -> Place
+    ensures { (net : List NetNode) (here one : Condition) → ((v : ℕ → Bool) → here v ≡ true → one v ≡ true)
+        → AllFollow net one known.items → IsPlace net here result }
+{
+    Place {
+        first: known,
+        second: Vec::new(alloc),
+        two: false,
+    }
+}
+
+// either of two places; one of them, where no run is in the other
+fn either(alloc: Global, from: usize, first: Vec<Bit>, second: Vec<Bit>) -> Place
+    ensures { (net : List NetNode) (here one other : Condition)
+        → ((v : ℕ → Bool) → here v ≡ true → (one v || other v) ≡ true) → AllFollow net one first.items
+        → AllFollow net other second.items → IsPlace net here result }
+{
+    if is_contradictory(&first, from) {
+        return lone(alloc, second);
+    }
+    if is_contradictory(&second, from) {
+        return lone(alloc, first);
+    }
+    Place {
+        first,
+        second,
+        two: true,
+    }
+}
+
+// what is known where a bit is true
+fn place_at(nodes: &[NetNode], hints: &Hints, live: Bit) -> Result<Place, OutOfMemory>
+    requires net { IsNet nodes.now }
+    requires live_in { IsIn nodes.now live }
+    ensures { IfOk result (IsPlace nodes.now (λ v. holds v nodes.now live)) }
+{
+    let alloc = hints.alloc;
+    let mut bits = Vec::new(alloc);
+    bits.push(live)?;
+    let known = taken_apart(nodes, hints, bits, 0)?;
+    let Some(arms) = arms(nodes, hints, &known) else {
+        return Ok(lone(alloc, known));
+    };
+    let first = assumed(alloc, nodes, hints, &known, arms.left)?;
+    let second = assumed(alloc, nodes, hints, &known, arms.right)?;
+    Ok(either(alloc, known.len(), first, second))
+}
+
+// the value that a bit has wherever runs are
+fn value_at(nodes: &[NetNode], place: &Place, bit: Bit) -> Option<bool>
+    requires { IsNet nodes.now }
+    ensures { IfSome result (λ value. (here : Condition) → IsPlace nodes.now here place.now
+        → IsAnswer nodes.now here bit value) }
+{
+    let first = value_by_parts(nodes, &place.first, DEPTH, bit)?;
+    if !place.two {
+        return Some(first);
+    }
+    match value_by_parts(nodes, &place.second, DEPTH, bit) {
+        Some(second) if second == first => Some(first),
+        _ => None,
+    }
+}
+
+// a bit that is true wherever runs are: a digit, its opposite, or within what is conjoined in it
+fn test_in(nodes: &[NetNode], hints: &Hints, place: &Place, depth: u32, digit: Bit) -> Option<Bit>
+    requires { IsNet nodes.now }
+    ensures { IfSome result (λ t. (here : Condition) → IsPlace nodes.now here place.now
+        → IsAnswer nodes.now here t true) }
+{
+    if let Some(value) = value_at(nodes, place, digit) {
+        return Some(if value { digit } else { not(digit) });
+    }
+    if depth == 0 || hints.is_test(digit.node) {
+        return None;
+    }
+    let plain = Bit {
+        node: digit.node,
+        negated: false,
+    };
+    let pair = arguments(nodes, plain)?;
+    if let Some(test) = test_in(nodes, hints, place, depth - 1, pair.left) {
+        return Some(test);
+    }
+    test_in(nodes, hints, place, depth - 1, pair.right)
+}
+
+fn is_conjunction(nodes: &[NetNode], bit: Bit) -> bool {
+    match nodes.get(bit.node as usize) {
+        Some(NetNode::And(_, _)) => true,
+        _ => false,
+    }
+}
+
+fn has_conjunction(nodes: &[NetNode], bits: &[Bit]) -> bool {
+    for bit in bits {
+        if is_conjunction(nodes, *bit) {
+            return true;
+        }
+    }
+    false
+}
+
+// a test within the lowest digits that are conjunctions
+fn test_of(nodes: &[NetNode], hints: &Hints, place: &Place, word: &[Bit]) -> Option<Bit>
+    requires { IsNet nodes.now }
+    ensures { IfSome result (λ t. (here : Condition) → IsPlace nodes.now here place.now
+        → IsAnswer nodes.now here t true) }
+{
+    let mut looked: usize = 0;
+    for digit in word {
+        if looked < MOST_DIGITS && is_conjunction(nodes, *digit) {
+            looked += 1;
+            if let Some(test) = test_in(nodes, hints, place, CHOICE, *digit) {
+                return Some(test);
+            }
+        }
+    }
+    None
+}
+
+// what is left of a digit where a test is true
+fn rest_of(nodes: &[NetNode], hints: &Hints, test: Bit, depth: u32, digit: Bit) -> Bit
+    requires net { IsNet nodes.now }
+    requires digit_in { IsIn nodes.now digit }
+    ensures { (here : Condition) → IsAnswer nodes.now here test true → IsAlike nodes.now here digit result }
+{
+    if digit.node == test.node {
+        return constant(digit.negated == test.negated);
+    }
+    if depth == 0 || hints.is_test(digit.node) {
+        return digit;
+    }
+    let plain = Bit {
+        node: digit.node,
+        negated: false,
+    };
+    let Some(pair) = arguments(nodes, plain) else {
+        return digit;
+    };
+    let left = rest_of(nodes, hints, test, depth - 1, pair.left);
+    let right = rest_of(nodes, hints, test, depth - 1, pair.right);
+    part_of(digit, left, right)
+}
+
+// what is left of a word where a test is true
+fn rest_of_word(
+    nodes: &[NetNode],
+    hints: &Hints,
+    test: Bit,
+    word: &[Bit],
+) -> Result<Vec<Bit>, OutOfMemory>
+    requires net { IsNet nodes.now }
+    requires word_in { AreIn nodes.now word.now }
+    ensures { IfOk result (λ r. (here : Condition) → IsAnswer nodes.now here test true
+        → AreAlike nodes.now here word.now r.items) }
+{
+    let mut rest = Vec::new(hints.alloc);
+    for at in 0..word.len() {
+        let digit = rest_of(nodes, hints, test, CHOICE, word[at]);
+        rest.push(digit)?;
+    }
+    Ok(rest)
+}
+
+/// Bits that have the number of others wherever `live` is true: what is left of a word that tests chose, where these are
+/// known.
+pub fn settled(
+    nodes: &[NetNode],
+    hints: &Hints,
+    live: Bit,
+    bits: &[Bit],
+) -> Result<Vec<Bit>, OutOfMemory>
+    requires net { IsNet nodes.now }
+    requires live_in { IsIn nodes.now live }
+    requires bits_in { AreIn nodes.now bits.now }
+    ensures { IfOk result (λ r. AreAlike nodes.now (λ v. holds v nodes.now live) bits.now r.items) }
+{
+    let mut word = bits.to_vec(hints.alloc)?;
+    if !has_conjunction(nodes, bits) {
+        return Ok(word);
+    }
+    let place = place_at(nodes, hints, live)?;
+    for choice in 0..MOST_CHOICES {
+        let Some(test) = test_of(nodes, hints, &place, &word) else {
+            break;
+        };
+        word = rest_of_word(nodes, hints, test, &word)?;
+    }
+    Ok(word)
+}
+
+// of a disjunction the arm that is left, where bits are true that contradict the other
+fn arm_left(
+    nodes: &[NetNode],
+    hints: &Hints,
+    known: &[Bit],
+    live: Bit,
+) -> Result<Option<Bit>, OutOfMemory>
+    requires net { IsNet nodes.now }
+    requires live_in { IsIn nodes.now live }
+    ensures { IfOk result (λ r. IfSome r (λ arm. (here : Condition) → AllFollow nodes.now here known.now
+        → IsAlike nodes.now here live arm)) }
+{
+    let alloc = hints.alloc;
+    let Some(arms) = arms_of(nodes, known, live) else {
+        return Ok(None);
+    };
+    let first = assumed(alloc, nodes, hints, known, arms.left)?;
+    if is_contradictory(&first, known.len()) {
+        return Ok(Some(arms.right));
+    }
+    let second = assumed(alloc, nodes, hints, known, arms.right)?;
+    if is_contradictory(&second, known.len()) {
+        return Ok(Some(arms.left));
+    }
+    Ok(None)
+}
+
+// the arms of where runs are that a bit leaves
+fn arms_left(nodes: &[NetNode], hints: &Hints, live: Bit, bit: Bit) -> Result<Bit, OutOfMemory>
+    requires net { IsNet nodes.now }
+    requires live_in { IsIn nodes.now live }
+    requires bit_in { IsIn nodes.now bit }
+    ensures { IfOk result (λ r. IsAlike nodes.now (λ v. holds v nodes.now bit) live r) }
+{
+    let mut arm = live;
+    if !live.negated {
+        return Ok(arm);
+    }
+    let mut bits = Vec::new(hints.alloc);
+    bits.push(bit)?;
+    let known = taken_apart(nodes, hints, bits, 0)?;
+    for step in 0..MOST_CHOICES {
+        let Some(left) = arm_left(nodes, hints, &known, arm)? else {
+            break;
+        };
+        arm = left;
+    }
+    Ok(arm)
+}
+
+/// Where runs are that a bit leaves: of a disjunction the arms that the bit doesn't contradict, where memory allows it.
+pub fn narrowed(nodes: &[NetNode], hints: &Hints, live: Bit, bit: Bit) -> Bit
+    requires net { IsNet nodes.now }
+    requires live_in { IsIn nodes.now live }
+    requires bit_in { IsIn nodes.now bit }
+    ensures { IsAlike nodes.now (λ v. holds v nodes.now bit) live result }
+{
+    match arms_left(nodes, hints, live, bit) {
+        Ok(arm) => arm,
+        Err(OutOfMemory) => live,
+    }
+}
