@@ -100,27 +100,31 @@ fn value_at(nodes: &[NetNode], place: &Place, bit: Bit) -> Option<bool>
     }
 }
 
-// a bit that is true wherever runs are: a digit, its opposite, or within what is conjoined in it
-fn test_in(nodes: &[NetNode], hints: &Hints, place: &Place, depth: u32, digit: Bit) -> Option<Bit>
+// a bit that is true wherever runs are: within what is conjoined in a digit, or the digit or its opposite
+fn test_in(nodes: &[NetNode], place: &Place, depth: u32, digit: Bit) -> Option<Bit>
     requires { IsNet nodes.now }
     ensures { IfSome result (λ t. (here : Condition) → IsPlace nodes.now here place.now
         → IsAnswer nodes.now here t true) }
 {
-    if let Some(value) = value_at(nodes, place, digit) {
-        return Some(if value { digit } else { not(digit) });
-    }
-    if depth == 0 || hints.is_test(digit.node) {
-        return None;
-    }
     let plain = Bit {
         node: digit.node,
         negated: false,
     };
-    let pair = arguments(nodes, plain)?;
-    if let Some(test) = test_in(nodes, hints, place, depth - 1, pair.left) {
-        return Some(test);
+    if depth != 0 {
+        if let Some(pair) = arguments(nodes, plain) {
+            if let Some(test) = test_in(nodes, place, depth - 1, pair.left) {
+                return Some(test);
+            }
+            if let Some(test) = test_in(nodes, place, depth - 1, pair.right) {
+                return Some(test);
+            }
+        }
     }
-    test_in(nodes, hints, place, depth - 1, pair.right)
+    match value_at(nodes, place, digit) {
+        Some(true) => Some(digit),
+        Some(false) => Some(not(digit)),
+        None => None,
+    }
 }
 
 fn is_conjunction(nodes: &[NetNode], bit: Bit) -> bool {
@@ -130,17 +134,8 @@ fn is_conjunction(nodes: &[NetNode], bit: Bit) -> bool {
     }
 }
 
-fn has_conjunction(nodes: &[NetNode], bits: &[Bit]) -> bool {
-    for bit in bits {
-        if is_conjunction(nodes, *bit) {
-            return true;
-        }
-    }
-    false
-}
-
 // a test within the lowest digits that are conjunctions
-fn test_of(nodes: &[NetNode], hints: &Hints, place: &Place, word: &[Bit]) -> Option<Bit>
+fn test_of(nodes: &[NetNode], place: &Place, word: &[Bit]) -> Option<Bit>
     requires { IsNet nodes.now }
     ensures { IfSome result (λ t. (here : Condition) → IsPlace nodes.now here place.now
         → IsAnswer nodes.now here t true) }
@@ -149,7 +144,7 @@ fn test_of(nodes: &[NetNode], hints: &Hints, place: &Place, word: &[Bit]) -> Opt
     for digit in word {
         if looked < MOST_DIGITS && is_conjunction(nodes, *digit) {
             looked += 1;
-            if let Some(test) = test_in(nodes, hints, place, CHOICE, *digit) {
+            if let Some(test) = test_in(nodes, place, CHOICE, *digit) {
                 return Some(test);
             }
         }
@@ -158,7 +153,7 @@ fn test_of(nodes: &[NetNode], hints: &Hints, place: &Place, word: &[Bit]) -> Opt
 }
 
 // what is left of a digit where a test is true
-fn rest_of(nodes: &[NetNode], hints: &Hints, test: Bit, depth: u32, digit: Bit) -> Bit
+fn rest_of(nodes: &[NetNode], test: Bit, depth: u32, digit: Bit) -> Bit
     requires net { IsNet nodes.now }
     requires digit_in { IsIn nodes.now digit }
     ensures { (here : Condition) → IsAnswer nodes.now here test true → IsAlike nodes.now here digit result }
@@ -166,7 +161,7 @@ fn rest_of(nodes: &[NetNode], hints: &Hints, test: Bit, depth: u32, digit: Bit) 
     if digit.node == test.node {
         return constant(digit.negated == test.negated);
     }
-    if depth == 0 || hints.is_test(digit.node) {
+    if depth == 0 {
         return digit;
     }
     let plain = Bit {
@@ -176,15 +171,15 @@ fn rest_of(nodes: &[NetNode], hints: &Hints, test: Bit, depth: u32, digit: Bit) 
     let Some(pair) = arguments(nodes, plain) else {
         return digit;
     };
-    let left = rest_of(nodes, hints, test, depth - 1, pair.left);
-    let right = rest_of(nodes, hints, test, depth - 1, pair.right);
+    let left = rest_of(nodes, test, depth - 1, pair.left);
+    let right = rest_of(nodes, test, depth - 1, pair.right);
     part_of(digit, left, right)
 }
 
 // what is left of a word where a test is true
 fn rest_of_word(
+    alloc: Global,
     nodes: &[NetNode],
-    hints: &Hints,
     test: Bit,
     word: &[Bit],
 ) -> Result<Vec<Bit>, OutOfMemory>
@@ -193,9 +188,9 @@ fn rest_of_word(
     ensures { IfOk result (λ r. (here : Condition) → IsAnswer nodes.now here test true
         → AreAlike nodes.now here word.now r.items) }
 {
-    let mut rest = Vec::new(hints.alloc);
+    let mut rest = Vec::new(alloc);
     for at in 0..word.len() {
-        let digit = rest_of(nodes, hints, test, CHOICE, word[at]);
+        let digit = rest_of(nodes, test, CHOICE, word[at]);
         rest.push(digit)?;
     }
     Ok(rest)
@@ -214,16 +209,21 @@ pub fn settled(
     requires bits_in { AreIn nodes.now bits.now }
     ensures { IfOk result (λ r. AreAlike nodes.now (λ v. holds v nodes.now live) bits.now r.items) }
 {
-    let mut word = bits.to_vec(hints.alloc)?;
-    if !has_conjunction(nodes, bits) {
+    let alloc = hints.alloc;
+    let mut word = bits.to_vec(alloc)?;
+    if !hints.words.is_told(alloc, bits) {
         return Ok(word);
     }
     let place = place_at(nodes, hints, live)?;
     for choice in 0..MOST_CHOICES {
-        let Some(test) = test_of(nodes, hints, &place, &word) else {
+        let Some(test) = test_of(nodes, &place, &word) else {
             break;
         };
-        word = rest_of_word(nodes, hints, test, &word)?;
+        word = rest_of_word(alloc, nodes, test, &word)?;
+        // facts speak of a word that is an unknown
+        if !hints.words.is_told(alloc, &word) {
+            break;
+        }
     }
     Ok(word)
 }

@@ -352,7 +352,7 @@ impl Net {
     }
 
     /// Bits that have the number of others wherever `live` is true: what is left of a word that tests chose, where these
-    /// are known. No node is added.
+    /// are known. A word that is an unknown stays as it is, since facts speak of it. No node is added.
     pub fn settled(
         &mut self,
         alloc: Global,

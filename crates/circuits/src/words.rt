@@ -212,6 +212,20 @@ impl Words {
         lone_digit(bits).is_some() || constant_of(bits).is_some() || self.find(bits).is_some()
     }
 
+    /// Whether more is known of bits than an unknown of their own.
+    pub fn is_told(&self, alloc: Global, bits: &[Bit]) -> bool {
+        let Some(at) = self.find(bits) else {
+            return false;
+        };
+        match (
+            self.list.get(at),
+            Polynomial::unknown(alloc, 2 * at as u32 + 2),
+        ) {
+            (Some(word), Ok(own)) => !word.polynomial.same_terms(&own),
+            _ => false,
+        }
+    }
+
     /// The bit that an odd unknown stands for.
     pub fn digit(&self, truth: u32) -> Option<Bit>
         ensures is { IfSome result (λ b. IsDigit (bits_of self.now.list.items) truth b) }

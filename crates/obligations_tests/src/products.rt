@@ -209,7 +209,7 @@ int main() {
 ];
 
 // Programs whose obligations are decided by words and facts alone.
-const SETTLED: [Case; 14] = [
+const SETTLED: [Case; 15] = [
     Case {
         name: "the same product twice",
         source: "\
@@ -494,6 +494,28 @@ int main() {
 }
 ",
         claims: &[],
+    },
+    Case {
+        name: "an element at an index that is the same in and after a loop",
+        source: "\
+void reach_error() { }
+int __VERIFIER_nondet_int();
+int main() {
+  int a[100];
+  int q = __VERIFIER_nondet_int();
+  int i = 0;
+  while (1) {
+    if (i >= 100) break;
+    if (a[i] == q) break;
+    i = i + 1;
+  }
+  if (!(i >= 100 || a[i] == q)) {
+    reach_error();
+  }
+  return 0;
+}
+",
+        claims: &[(Loop, 7, "0 <= i && i <= 100")],
     },
 ];
 

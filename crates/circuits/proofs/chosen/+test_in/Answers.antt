@@ -1,5 +1,7 @@
+use Rattle.std.proofs.Common.{false, subst}
+use Rattle.circuits.specs.Facts.{IsAnswer}
 use Rattle.circuits.proofs.ChosenLaws.{answer_opposite}
 use Rattle.circuits.proofs.chosen.+test_in.Goals as goal
 
-pub returns-else-value : goal.returns-else-value
-returns-else-value t c = λ here h. answer_opposite c.not.result c.not.ensures c.if-value.false (c.in-Some.ensures here h)
+pub returns-in-Some-false : goal.returns-in-Some-false
+returns-in-Some-false t c = λ here h. answer_opposite c.not.result c.not.ensures c.in-Some-false.field-0-test (c.in-Some-false.ensures here h)

@@ -4,8 +4,8 @@ use Rattle.circuits.specs.Chosen.{AreAlike}
 use Rattle.circuits.proofs.ChosenLaws.{alike_then, alike_words}
 use Rattle.circuits.proofs.chosen.settled.Goals as goal
 
-pub returns-then-not-has_conjunction : goal.returns-then-not-has_conjunction
-returns-then-not-has_conjunction c =
+pub returns-then-not-is_told : goal.returns-then-not-is_told
+returns-then-not-is_told c =
     let net = c.args.nodes.now in
     subst (λ l. AreAlike net (λ v. holds v net c.args.live) c.args.bits.now l) (sym (c.in_ok-word.ensures.items_if_clones_equal (λ x y e. e))) (alike_words c.args.bits.now c.requires.bits_in)
 
