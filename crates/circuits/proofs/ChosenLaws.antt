@@ -6,9 +6,9 @@ use Rattle.std.proofs.lemmas.List.{take_more, take_all, length-take-le}
 use Rattle.circuits.specs.declared.net.Bit.{Bit}
 use Rattle.circuits.specs.declared.net.NetNode.{NetNode}
 use Rattle.circuits.specs.declared.chosen.Place.{Place}
-use Rattle.circuits.specs.Net.{holds, opposite, IsIn, Means}
+use Rattle.circuits.specs.Net.{holds, opposite, IsIn}
 use Rattle.circuits.specs.Numbers.{digit, number, AreIn}
-use Rattle.circuits.specs.Facts.{Condition, AllFollow, AreArms, IsAlike, IsAnswer, IsDisjunction, IsNowhere}
+use Rattle.circuits.specs.Facts.{Condition, AllFollow, AreArms, IsAlike, IsAnswer, IsNowhere}
 use Rattle.circuits.specs.Chosen.{AreAlike, IsPlace}
 use Rattle.circuits.proofs.Counting.{in_none, snoc}
 use Rattle.circuits.proofs.FactLaws.{plain_sign, sign_known}
@@ -116,38 +116,3 @@ alike_next {net} {here} {out} {i} {s} bits d a m lt =
 
 pub alike_end : {net : List NetNode} {here : Condition} {out : List Bit} {n : ℕ} (bits : List Bit) → AreAlike net here (take n bits) out → n ≡ length bits → AreAlike net here bits out
 alike_end {net} {here} {out} {n} bits a e = subst (λ l. AreAlike net here l out) (take_all n bits (omega arith)) a
-
--- ---- disjunctions of which one arm is left
-no_left : (x y : Bool) → (x ≡ true → ⊥) → (x || y) ≡ y
-no_left true y n = absurd (n refl)
-no_left false y n = refl
-
-no_right : (x y : Bool) → (y ≡ true → ⊥) → (x || y) ≡ x
-no_right true y n = refl
-no_right false true n = absurd (n refl)
-no_right false false n = refl
-
-pub right_left : {net : List NetNode} {here : Condition} {b : Bit} (left right : Bit) → IsDisjunction net b left right → IsNowhere (λ v. here v && holds v net left) → IsAlike net here b right
-right_left {net} left right d n = record { inside = d.right_in; is = λ v h. d.is v ∙ no_left (holds v net left) (holds v net right) (λ k. n v (ap₂ (λ x y. x && y) h k)) }
-
-pub left_left : {net : List NetNode} {here : Condition} {b : Bit} (left right : Bit) → IsDisjunction net b left right → IsNowhere (λ v. here v && holds v net right) → IsAlike net here b left
-left_left {net} left right d n = record { inside = d.left_in; is = λ v h. d.is v ∙ no_right (holds v net left) (holds v net right) (λ k. n v (ap₂ (λ x y. x && y) h k)) }
-
-pub alike_on : {net : List NetNode} {here : Condition} {a b c : Bit} → IsAlike net here a b → IsAlike net here b c → IsAlike net here a c
-alike_on x y = record { inside = y.inside; is = λ v e. x.is v e ∙ y.is v e }
-
-narrowed_value : (l b a p : Bool) → (b ≡ true → l ≡ a) → (a ≡ true → b ≡ p) → (a && p) ≡ (l && b)
-narrowed_value l true true p e f = ap (λ x. true && x) (sym (f refl)) ∙ ap (λ x. x && true) (sym (e refl))
-narrowed_value l true false p e f = ap (λ x. x && true) (sym (e refl))
-narrowed_value true false true p e f = sym (f refl)
-narrowed_value false false true p e f = sym (f refl)
-narrowed_value true false false p e f = refl
-narrowed_value false false false p e f = refl
-
--- where runs are and a bit, by the arm that it leaves and by what is left of it there
-pub narrowed_means : {net new : List NetNode} {r : Bit} (live bit arm part : Bit) → IsAlike net (λ v. holds v net bit) live arm → IsAlike net (λ v. holds v net arm) bit part → Means new r (λ v. holds v net arm && holds v net part)
-    → Means new r (λ v. holds v net live && holds v net bit)
-narrowed_means {net} live bit arm part x y m = record {
-  inside = m.inside;
-  is = λ v. m.is v ∙ narrowed_value (holds v net live) (holds v net bit) (holds v net arm) (holds v net part) (x.is v) (y.is v);
-}

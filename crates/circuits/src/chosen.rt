@@ -8,9 +8,7 @@ ghost use Rattle.circuits.specs.Chosen.{AreAlike, IsPlace};
 
 use crate::answers::{constant, part_of};
 use crate::hints::Hints;
-use crate::parts::{
-    arguments, arms, arms_of, assumed, is_contradictory, taken_apart, value_by_parts,
-};
+use crate::parts::{arguments, arms, assumed, is_contradictory, taken_apart, value_by_parts};
 use crate::{Bit, NetNode, not};
 use std::alloc::Global;
 use wv_base::OutOfMemory;
@@ -24,7 +22,7 @@ const CHOICE: u32 = 2;
 // of so many digits at most a test is looked for
 const MOST_DIGITS: usize = 2;
 
-// so often a word, or a disjunction, is what is left of another
+// so often a word is what is left of another
 const MOST_CHOICES: usize = 8;
 
 /// Bits that are known where runs are: those of one place, or of either of two.
@@ -226,67 +224,4 @@ pub fn settled(
         }
     }
     Ok(word)
-}
-
-// of a disjunction the arm that is left, where bits are true that contradict the other
-fn arm_left(
-    nodes: &[NetNode],
-    hints: &Hints,
-    known: &[Bit],
-    live: Bit,
-) -> Result<Option<Bit>, OutOfMemory>
-    requires net { IsNet nodes.now }
-    requires live_in { IsIn nodes.now live }
-    ensures { IfOk result (λ r. IfSome r (λ arm. (here : Condition) → AllFollow nodes.now here known.now
-        → IsAlike nodes.now here live arm)) }
-{
-    let alloc = hints.alloc;
-    let Some(arms) = arms_of(nodes, known, live) else {
-        return Ok(None);
-    };
-    let first = assumed(alloc, nodes, hints, known, arms.left)?;
-    if is_contradictory(&first, known.len()) {
-        return Ok(Some(arms.right));
-    }
-    let second = assumed(alloc, nodes, hints, known, arms.right)?;
-    if is_contradictory(&second, known.len()) {
-        return Ok(Some(arms.left));
-    }
-    Ok(None)
-}
-
-// the arms of where runs are that a bit leaves
-fn arms_left(nodes: &[NetNode], hints: &Hints, live: Bit, bit: Bit) -> Result<Bit, OutOfMemory>
-    requires net { IsNet nodes.now }
-    requires live_in { IsIn nodes.now live }
-    requires bit_in { IsIn nodes.now bit }
-    ensures { IfOk result (λ r. IsAlike nodes.now (λ v. holds v nodes.now bit) live r) }
-{
-    let mut arm = live;
-    if !live.negated {
-        return Ok(arm);
-    }
-    let mut bits = Vec::new(hints.alloc);
-    bits.push(bit)?;
-    let known = taken_apart(nodes, hints, bits, 0)?;
-    for step in 0..MOST_CHOICES {
-        let Some(left) = arm_left(nodes, hints, &known, arm)? else {
-            break;
-        };
-        arm = left;
-    }
-    Ok(arm)
-}
-
-/// Where runs are that a bit leaves: of a disjunction the arms that the bit doesn't contradict, where memory allows it.
-pub fn narrowed(nodes: &[NetNode], hints: &Hints, live: Bit, bit: Bit) -> Bit
-    requires net { IsNet nodes.now }
-    requires live_in { IsIn nodes.now live }
-    requires bit_in { IsIn nodes.now bit }
-    ensures { IsAlike nodes.now (λ v. holds v nodes.now bit) live result }
-{
-    match arms_left(nodes, hints, live, bit) {
-        Ok(arm) => arm,
-        Err(OutOfMemory) => live,
-    }
 }

@@ -332,7 +332,7 @@ impl Net {
     }
 
     /// The conjunction of where runs are and a bit. Where that bit's value is known there, no node is added; where a part
-    /// of it is, that part is left out, and so is an arm of where runs are that the bit contradicts.
+    /// of it is, that part is left out.
     pub fn under(&mut self, live: Bit, bit: Bit) -> Result<Bit, OutOfMemory>
         requires live_in { IsIn self.old live }
         requires bit_in { IsIn self.old bit }
@@ -342,12 +342,11 @@ impl Net {
         ensures refused { IfErr result (λ e. self.new ≡ self.old) }
     {
         let mut questions = self.questions;
-        let arm = chosen::narrowed(&self.nodes, &self.hints, live, bit);
-        let part = simplified(&self.nodes, &self.hints, arm, bit, &mut questions);
+        let part = simplified(&self.nodes, &self.hints, live, bit, &mut questions);
         self.questions = questions;
         match part {
-            Ok(part) => self.and(arm, part),
-            Err(OutOfMemory) => self.and(arm, bit),
+            Ok(part) => self.and(live, part),
+            Err(OutOfMemory) => self.and(live, bit),
         }
     }
 

@@ -185,8 +185,8 @@ pub fn is_contradictory(known: &[Bit], from: usize) -> bool
     false
 }
 
-/// The opposites of what is conjoined in the opposite of a bit, where it isn't known which one is true.
-pub fn arms_of(nodes: &[NetNode], known: &[Bit], bit: Bit) -> Option<Pair>
+// the opposites of what is conjoined in the opposite of a bit, where it isn't known which one is true
+fn arms_of(nodes: &[NetNode], known: &[Bit], bit: Bit) -> Option<Pair>
     requires { IsNet nodes.now }
     ensures { IfSome result (λ p. IsDisjunction nodes.now bit p.left p.right) }
 {

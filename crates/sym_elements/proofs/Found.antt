@@ -1,7 +1,7 @@
 -- The places of a cell in an object: a run that is at none ends.
 use Rattle.std.proofs.Common.{◌≡◌, ℕ, ◌+◌, ◌*◌, ◌<◌, ◌≤◌, Bool, true, false, cond, not, ◌&&◌, ℤ, List, length, map, refl, sym, ◌∙◌, ap, ap₂, subst, arith, Option, Some, None, is_some, true≢false}
 use Rattle.c_core.specs.Tree.{Program}
-use Rattle.c_core.specs.Types.{is_signed}
+use Rattle.c_core.specs.Types.{is_signed, width_of}
 use Rattle.c_core.specs.declared.number.IntType.{IntType}
 use Rattle.sym_meaning.specs.Judged as definition
 use Rattle.c_meaning.specs.Objects.{size_of_object, columns_of_object}
@@ -11,6 +11,8 @@ use Rattle.circuits.specs.declared.net.Bit.{Bit}
 use Rattle.circuits.specs.declared.net.NetNode.{NetNode}
 use Rattle.circuits.specs.Net.{holds, Grown, Means}
 use Rattle.circuits.specs.Numbers.{number, read, typed, AreTyped}
+use Rattle.circuits.specs.Chosen.{AreAlike}
+use Rattle.circuits.specs.Facts.{Condition}
 use Rattle.circuits.proofs.Nets.{grown_then}
 use Rattle.sym_state.specs.declared.state.Sym.{Sym}
 use Rattle.sym_state.specs.Standing.{Stand, stand, IsState, Turned, IsHere, marks, stopped}
@@ -127,6 +129,21 @@ module _ (p : Program) (W : Mode) (o cost : ℕ) {i m : ℕ} {s n : Sym} {net : 
     follows = turned_follows p W.duties (λ v. stopped (not (inside v))) whole (λ v. refl) (λ v d. dead v (stand p v s) (not (inside v)) d) (λ v h rest. goes v (stand p v s) rest h (cell v) refl);
   }
 
+-- the same cell wherever a run is
+pub finds_as : {o cost : ℕ} {cell other : MaybeCell} {s n : Sym} {places : Places} (p : Program) (W : Mode) → Finds p W o cost cell s n places → ((v : ℕ → Bool) → holds v s.net s.live ≡ true → cell v ≡ other v) → Finds p W o cost other s n places
+finds_as {o} {other = other} {s = s} {n = n} {places = places} p W x same = record {
+  places_of = x.places_of;
+  follows = record {
+    fits = x.follows.fits;
+    added = x.follows.added;
+    level = x.follows.level;
+    result = x.follows.result;
+    moves = x.follows.moves;
+    does = λ v here vs rest taken.
+        subst (λ c. Came W.duties (λ k. k ≡ key_at o v n.net places.bits) (stand p v n) rest (definition.key_of o c (left_of (stand p v s) vs))) (same v here.live) (x.follows.does v here vs rest taken);
+  };
+}
+
 -- ---- the cells of an index, and of a row and a column
 -- an index of a type
 pub typed_index : (p : Program) {net : List NetNode} (ty : IntType) (bits : List Bit) (n : ℕ) (v : ℕ → Bool) → AreTyped p.model ty net bits → index_of net n (is_signed ty) bits v ≡ index_below n (typed p.model ty v net bits)
@@ -149,3 +166,16 @@ module _ (p : Program) (s : Sym) where
       (λ v.
       wherever always v (in_row c (index_of s.net (rows_of p o) (is_signed row_type) row v) (index_of s.net c (is_signed column_type) column v))
       ∙ ap₂ (in_row c) (typed_index p row_type row (rows_of p o) v hr) (typed_index p column_type column c v hc))
+
+-- bits that have the number of others where a run is are of the same type
+pub alike_typed : {here : Condition} {index rest : List Bit} (p : Program) (net : List NetNode) (ty : IntType) → AreTyped p.model ty net index → AreAlike net here index rest → AreTyped p.model ty net rest
+alike_typed p net ty h a = record { inside = a.inside; wide = a.wide ∙ h.wide }
+
+pub alike_index : {here : Condition} {index rest : List Bit} (p : Program) (s : Sym) (o : ℕ) (ty : IntType) → AreAlike s.net here index rest → (v : ℕ → Bool) → here v ≡ true → index_in p o ty rest s v ≡ index_in p o ty index s v
+alike_index p s o ty a v h = ap (λ n. index_below (size_of_object p o) (read (width_of p.model ty) (is_signed ty) n)) (sym (a.is v h))
+
+pub alike_row : {here : Condition} {row row_rest column column_rest : List Bit} (p : Program) (s : Sym) (o : ℕ) (row_type column_type : IntType) → AreAlike s.net here row row_rest → AreAlike s.net here column column_rest
+    → (v : ℕ → Bool) → here v ≡ true → row_in p o row_type row_rest column_type column_rest s v ≡ row_in p o row_type row column_type column s v
+alike_row p s o row_type column_type a b v h =
+    ap₂ (λ n m. in_row (columns_of_object p o) (index_below (rows_of p o) (read (width_of p.model row_type) (is_signed row_type) n)) (index_below (columns_of_object p o) (read (width_of p.model column_type) (is_signed column_type) m)))
+    (sym (a.is v h)) (sym (b.is v h))

@@ -30,7 +30,8 @@ fn end_outside(program: &Program, sym: &mut Sym, places: &[Bit]) -> Result<(), O
     Ok(())
 }
 
-/// The places of an index in an object. A run whose index lies outside ends.
+/// The places of an index in an object. A run whose index lies outside ends. Where the tests that chose the index are
+/// known by where runs are, it is the word that they chose: so reads at equal indexes are the same nodes.
 pub fn find(
     alloc: Global,
     program: &Program,
@@ -47,8 +48,10 @@ pub fn find(
         (index_in (program_view program.now) object ty index.now.bits sym.old) sym.old sym.new r) }
 {
     let count = size_of_object(program, object) as usize;
+    let here = sym.live;
+    let settled = sym.net.settled(alloc, here, index.bits.as_slice())?;
     let yes = sym.net.yes();
-    let places = place_index(alloc, &mut sym.net, yes, ty, index.bits.as_slice(), count)?;
+    let places = place_index(alloc, &mut sym.net, yes, ty, &settled, count)?;
     end_outside(program, sym, places.bits.as_slice())?;
     Ok(places)
 }
@@ -75,6 +78,9 @@ pub fn find_in_row(
         (row_in (program_view program.now) object row_type row.now.bits column_type column.now.bits sym.old) sym.old
         sym.new r) }
 {
+    let here = sym.live;
+    let settled_row = sym.net.settled(alloc, here, row.bits.as_slice())?;
+    let settled_column = sym.net.settled(alloc, here, column.bits.as_slice())?;
     let yes = sym.net.yes();
     let places = place_row(
         alloc,
@@ -83,9 +89,9 @@ pub fn find_in_row(
         object,
         yes,
         row_type,
-        row.bits.as_slice(),
+        &settled_row,
         column_type,
-        column.bits.as_slice(),
+        &settled_column,
     )?;
     end_outside(program, sym, places.bits.as_slice())?;
     Ok(places)

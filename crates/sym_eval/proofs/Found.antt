@@ -18,8 +18,7 @@ use Rattle.c_meaning.specs.Run.{index_below, in_row, cell_among}
 use Rattle.c_meaning.proofs.Indexes.{one_index, two_indexes}
 use Rattle.circuits.specs.declared.net.Bit.{Bit}
 use Rattle.circuits.specs.declared.net.NetNode.{NetNode}
-use Rattle.circuits.specs.Numbers.{typed, AreTyped}
-use Rattle.sym_state.specs.Reading.{ReadsHere}
+use Rattle.circuits.specs.Numbers.{typed, AreTyped, Reads}
 use Rattle.sym_state.specs.declared.state.Sym.{Sym}
 use Rattle.sym_state.specs.declared.state.Around.{Around}
 use Rattle.sym_state.specs.Places.{key}
@@ -134,10 +133,10 @@ module _ (p : Program) (W : Mode) where
   }
 
   -- ---- reading and writing a scalar object
-  pub look_scalar : (s : Sym) (o : ℕ) (t : IntType) (xs : List Bit) → IsState p s → ReadsHere p.model t s xs (λ v. read (key o 0) (stand p v s).cells) → Gives p W 0 0 s s (Some t) xs (looked_at p W (λ v. key o 0))
+  pub look_scalar : (s : Sym) (o : ℕ) (t : IntType) (xs : List Bit) → IsState p s → Reads p.model t s.net xs (λ v. read (key o 0) (stand p v s).cells) → Gives p W 0 0 s s (Some t) xs (looked_at p W (λ v. key o 0))
   look_scalar s o t xs h r = record {
     bits_in = r.bits_in;
-    follows = turned_follows p W.duties (λ v z. z) (record { fits = h; added = unchanged 0 s.net; level = refl; result = refl; is = λ v. refl }) (λ v. refl) (λ v d. refl) (λ v here rest. (here, refl, sym (r.is v here.live)));
+    follows = turned_follows p W.duties (λ v z. z) (record { fits = h; added = unchanged 0 s.net; level = refl; result = refl; is = λ v. refl }) (λ v. refl) (λ v d. refl) (λ v here rest. (here, refl, sym (r.is v)));
   }
 
 module _ (p : Program) (W : Mode) (n : ℕ) (at : Around) where

@@ -14,7 +14,7 @@ use c_core::{BinOp, Callee, Expr, IntType, Node, Spot, UnOp};
 use c_meaning::type_of;
 use circuits::{Bit, Bits, const_bits, not};
 use sym_exprs::kept_if;
-use sym_state::{Around, Sym, join, look_here, narrow};
+use sym_state::{Around, Sym, join, look, narrow};
 use sym_values::{choose, convert, end, input, test, truth};
 use sym_walk::{Walk, operate, operate_one, reach, tell_branch, tell_enter, tell_value};
 use wv_base::{OutOfMemory, Seq};
@@ -109,7 +109,7 @@ fn scalar(
     ensures { IfOk result (λ r. Values (program_of walk.now) (mode_of walk.now) depth at Used
         (t.Expr e.now.spot e.now.ty (t.Var object)) sym.old sym.new r.bits) }
 {
-    let r = look_here(walk.alloc, walk.program, sym, object, 0, type_of(e))?;
+    let r = look(walk.alloc, walk.program, sym, object, 0, type_of(e))?;
     Ok(r)
 }
 

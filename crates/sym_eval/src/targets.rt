@@ -13,7 +13,7 @@ use c_core::{IntType, Program};
 use circuits::Bits;
 use std::alloc::Global;
 use sym_elements::{Places, read_element, store_element};
-use sym_state::{Sym, look_here};
+use sym_state::{Sym, look};
 use sym_values::store;
 use wv_base::OutOfMemory;
 
@@ -43,7 +43,7 @@ pub fn look_target(
 {
     match target {
         Target::Scalar(object) => {
-            let r = look_here(alloc, program, sym, *object, 0, ty)?;
+            let r = look(alloc, program, sym, *object, 0, ty)?;
             Ok(r)
         }
         Target::Element(object, places) => {

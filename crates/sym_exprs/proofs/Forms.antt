@@ -21,7 +21,6 @@ use Rattle.c_meaning.specs.Related.{given_by_one}
 use Rattle.c_meaning.proofs.TypeFacts.{neither, unary_types, binary_types}
 use Rattle.circuits.specs.declared.net.Bit.{Bit}
 use Rattle.circuits.specs.Numbers.{typed, AreTyped, Reads}
-use Rattle.sym_state.specs.Reading.{ReadsHere}
 use Rattle.circuits.specs.Outcome.{conversion_cost, binary_type, one_type}
 use Rattle.sym_state.specs.declared.state.Sym.{Sym}
 use Rattle.sym_state.specs.declared.state.Around.{Around}
@@ -91,12 +90,12 @@ module _ (p : Program) (W : Mode) (n : ℕ) where
       follows = net_follows p W.duties (λ v. z) (record { fits = h.fits; added = unchanged _ s.net; level = refl; result = refl; is = λ v. refl }) (λ v. sym (r.is v));
     }
 
-    var_values : (s : Sym) (bits : List Bit) (spot : Spot) (ty : Option IntType) (o : ℕ) → Ready p W n at s (Expr spot ty (Var o)) → ReadsHere p.model (type_or_int ty) s bits (λ v. read (key o 0) (stand p v s).cells)
+    var_values : (s : Sym) (bits : List Bit) (spot : Spot) (ty : Option IntType) (o : ℕ) → Ready p W n at s (Expr spot ty (Var o)) → Reads p.model (type_or_int ty) s.net bits (λ v. read (key o 0) (stand p v s).cells)
         → Values p W n at Used (Expr spot ty (Var o)) s s bits
     var_values s bits spot None o h r = absurd (scalar_has p spot o h.types)
     var_values s bits spot (Some ty) o h r = record {
       bits_in = r.bits_in;
-      follows = turned_follows p W.duties (λ v z. z) (record { fits = h.fits; added = unchanged _ s.net; level = refl; result = refl; is = λ v. refl }) (λ v. refl) (λ v d. refl) (λ v here rest. (here, refl, sym (r.is v here.live)));
+      follows = turned_follows p W.duties (λ v z. z) (record { fits = h.fits; added = unchanged _ s.net; level = refl; result = refl; is = λ v. refl }) (λ v. refl) (λ v d. refl) (λ v here rest. (here, refl, sym (r.is v)));
     }
 
     unary_values : {s x m : Sym} {xs rs : List Bit} (spot : Spot) (ty : Option IntType) (op : UnOp) (a : Exp) → Ready p W n at s (Expr spot ty (Unary op a)) → Values p W n at Used a s x xs
@@ -225,6 +224,6 @@ module _ (p : Program) (W : Mode) (n : ℕ) where
     pub const_step : (s : Sym) (bits : List Bit) (spot : Spot) (ty : Option IntType) (z : ℤ) (t : IntType) → t ≡ type_or_int ty → Ready p W n at s (Expr spot ty (Const z)) → Reads p.model t s.net bits (λ v. z) → Values p W n at Used (Expr spot ty (Const z)) s s bits
     const_step s bits spot ty z t e h r = const_values s bits spot ty z h (subst (λ k. Reads p.model k s.net bits (λ v. z)) e r)
 
-    pub var_step : (s : Sym) (bits : List Bit) (spot : Spot) (ty : Option IntType) (o : ℕ) (t : IntType) → t ≡ type_or_int ty → Ready p W n at s (Expr spot ty (Var o)) → ReadsHere p.model t s bits (λ v. read (key o 0) (stand p v s).cells)
+    pub var_step : (s : Sym) (bits : List Bit) (spot : Spot) (ty : Option IntType) (o : ℕ) (t : IntType) → t ≡ type_or_int ty → Ready p W n at s (Expr spot ty (Var o)) → Reads p.model t s.net bits (λ v. read (key o 0) (stand p v s).cells)
         → Values p W n at Used (Expr spot ty (Var o)) s s bits
-    var_step s bits spot ty o t e h r = var_values s bits spot ty o h (subst (λ k. ReadsHere p.model k s bits (λ v. read (key o 0) (stand p v s).cells)) e r)
+    var_step s bits spot ty o t e h r = var_values s bits spot ty o h (subst (λ k. Reads p.model k s.net bits (λ v. read (key o 0) (stand p v s).cells)) e r)

@@ -17,8 +17,6 @@ use Rattle.circuits.specs.Numbers.{number, read as read_number, typed, AreTyped,
 use Rattle.sym_state.specs.declared.state.Sym.{Sym}
 use Rattle.sym_state.specs.declared.state.SymCell.{SymCell}
 use Rattle.sym_state.specs.Standing.{stand, cell_at, key_of, IsCell, IsState, Turned, stored}
-use Rattle.circuits.specs.Chosen.{AreAlike}
-use Rattle.sym_state.specs.Reading.{ReadsHere}
 use Rattle.sym_state.specs.Places.{key, is_of, live_in, IsInnermost}
 use Rattle.sym_state.proofs.Nets.{added_of, unchanged, state_grown, stand_grown}
 use Rattle.sym_state.proofs.Innermost.{read_found, read_none, put_found, put_none}
@@ -121,11 +119,4 @@ write_none p s o i k here value h none = record {
       let z = typed p.model (type_of_object p o) v s.net value in
       let e : cs ≡ cond (holds v s.net here) (put (key o i) z cs) cs = same_either (holds v s.net here) cs (put (key o i) z cs) (put_none val o i z s.cells.items none) in
       λ i. record (stand p v s) { cells = e i };
-}
-
--- ---- what is left of a word where a run is
-pub settled_reads : {held rest : List Bit} (p : Program) (s : Sym) (ty : IntType) (value : (ℕ → Bool) → ℤ) → Reads p.model ty s.net held value → AreAlike s.net (λ v. holds v s.net s.live) held rest → ReadsHere p.model ty s rest value
-settled_reads p s ty value r a = record {
-  bits_in = record { inside = a.inside; wide = a.wide ∙ r.bits_in.wide };
-  is = λ v h. ap (read_number (width_of p.model ty) (is_signed ty)) (sym (a.is v h)) ∙ r.is v;
 }

@@ -3,4 +3,3 @@ pub mod Places
 pub mod Following
 pub mod Drawn
 pub mod Telling
-pub mod Reading

@@ -7,7 +7,6 @@ ghost use Rattle.c_meaning.specs.Objects.{type_of_object};
 ghost use Rattle.circuits.specs.Net.{holds, IsIn};
 ghost use Rattle.circuits.specs.Numbers.{typed, AreTyped, Reads};
 ghost use Rattle.sym_state.specs.Standing.{stand, IsState, Turned, stored};
-ghost use Rattle.sym_state.specs.Reading.{ReadsHere};
 ghost use Rattle.sym_state.specs.Places.{key, is_of, IsInnermost, live_in};
 
 use crate::state::{Sym, SymCell};
@@ -69,28 +68,6 @@ pub fn look(
             Ok(bits)
         }
     }
-}
-
-/// What the innermost cell of an object of a type holds at an index where a run is, or 0 where no such cell is live.
-pub fn look_here(
-    alloc: Global,
-    program: &Program,
-    sym: &mut Sym,
-    object: u32,
-    index: u32,
-    ty: IntType,
-) -> Result<Bits, OutOfMemory>
-    requires fits { IsState (program_view program.now) sym.old }
-    requires typed { ty ≡ type_of_object (program_view program.now) object }
-    ensures same { sym.new ≡ sym.old }
-    ensures read { IfOk result (λ r. ReadsHere program.now.model ty sym.old r.bits
-        (λ v. read (key object index) (stand (program_view program.now) v sym.old).cells)) }
-{
-    let held = look(alloc, program, sym, object, index, ty)?;
-    let here = sym.live;
-    let rest = sym.net.settled(alloc, here, held.bits.as_slice())?;
-    let bits = Seq::from_vec(rest);
-    Ok(Bits { bits })
 }
 
 /// Where `here` is true, the innermost cell of an object at an index holds the value from now on.

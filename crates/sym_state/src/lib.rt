@@ -8,7 +8,7 @@ mod drawing;
 mod ending;
 mod state;
 
-pub use cells::{look, look_here, place_of, write};
+pub use cells::{look, place_of, write};
 pub use drawing::draw;
 pub use ending::{fail, join, narrow, stop, violate};
 pub use state::{Around, DrawSite, Sym, SymCell};

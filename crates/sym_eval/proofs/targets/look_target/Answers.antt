@@ -7,8 +7,8 @@ use Rattle.sym_eval.specs.Targets.{object_of, keys_of, IsTarget, reading}
 use Rattle.sym_eval.proofs.Found.{look_scalar}
 use Rattle.sym_eval.proofs.targets.look_target.Goals as goal
 
-pub look_here-requires-clause-typed : goal.look_here-requires-clause-typed
-look_here-requires-clause-typed c = c.requires.typed ∙ ap (λ t. type_of_object (program_view c.args.program.now) (object_of t)) c.in-Scalar.is
+pub look-requires-clause-typed : goal.look-requires-clause-typed
+look-requires-clause-typed c = c.requires.typed ∙ ap (λ t. type_of_object (program_view c.args.program.now) (object_of t)) c.in-Scalar.is
 
 pub read_element-requires-clause-typed : goal.read_element-requires-clause-typed
 read_element-requires-clause-typed c = c.requires.typed ∙ ap (λ t. type_of_object (program_view c.args.program.now) (object_of t)) c.in-Element.is
@@ -23,8 +23,7 @@ pub returns-in_ok-r-in-Scalar : goal.returns-in_ok-r-in-Scalar
 returns-in_ok-r-in-Scalar c W =
     let p = program_view c.args.program.now in
     let s = c.args.sym.now in
-    rw c.look_here.ensures.same
-    (subst (λ t. Gives p W (reading p t) 0 s s (Some c.args.ty) c.in_ok-r-in-Scalar.r.bits (looked_at p W (keys_of t s.net))) (sym c.in-Scalar.is) (look_scalar p W s c.in-Scalar.object c.args.ty c.in_ok-r-in-Scalar.r.bits c.requires.fits c.in_ok-r-in-Scalar.ensures.read))
+    subst (λ t. Gives p W (reading p t) 0 s s (Some c.args.ty) c.in_ok-r-in-Scalar.r.bits (looked_at p W (keys_of t s.net))) (sym c.in-Scalar.is) (look_scalar p W s c.in-Scalar.object c.args.ty c.in_ok-r-in-Scalar.r.bits c.requires.fits c.in_ok-r-in-Scalar.ensures)
 
 pub returns-in_ok-r-in-Element : goal.returns-in_ok-r-in-Element
 returns-in_ok-r-in-Element c W =
