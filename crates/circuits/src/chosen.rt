@@ -223,5 +223,10 @@ pub fn settled(
             break;
         }
     }
+    // (of bits that are no word nothing is known)
+    if !hints.words.is_word(&word) {
+        let same = bits.to_vec(alloc)?;
+        return Ok(same);
+    }
     Ok(word)
 }

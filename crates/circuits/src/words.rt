@@ -212,6 +212,16 @@ impl Words {
         lone_digit(bits).is_some() || constant_of(bits).is_some() || self.find(bits).is_some()
     }
 
+    /// Whether bits are constants, or a word.
+    pub fn is_word(&self, bits: &[Bit]) -> bool {
+        for bit in bits {
+            if bit.node != 0 {
+                return self.find(bits).is_some();
+            }
+        }
+        true
+    }
+
     /// Whether more is known of bits than an unknown of their own.
     pub fn is_told(&self, alloc: Global, bits: &[Bit]) -> bool {
         let Some(at) = self.find(bits) else {

@@ -5,7 +5,8 @@ ghost use Rattle.c_core.specs.Operators as operators;
 ghost use Rattle.c_core.specs.View.{program_view};
 ghost use Rattle.sym_meaning.specs.Mode.{Mode};
 ghost use Rattle.circuits.specs.Net.{holds, IsIn};
-ghost use Rattle.circuits.specs.Numbers.{AreTyped};
+ghost use Rattle.circuits.specs.Chosen.{AreAlike};
+ghost use Rattle.circuits.specs.Numbers.{AreIn, AreTyped};
 ghost use Rattle.circuits.specs.Outcome.{binary_type, one_type};
 ghost use Rattle.sym_state.specs.Standing.{IsState, Turned};
 ghost use Rattle.sym_values.specs.Valuing.{judged, operated_cost, operated_one_cost, IsDutyAt, CountsWhere, Gives, operated, operated_one};
@@ -16,7 +17,7 @@ use c_core::{
 use circuits::{Bit, Bits, apply_bits, convert_bits, one_bits};
 use std::alloc::Global;
 use sym_state::{Around, Sym, stop, violate};
-use wv_base::OutOfMemory;
+use wv_base::{OutOfMemory, Seq};
 
 // The type of its right side.
 fn right_type_for(model: DataModel, op: BinOp, ty: IntType, b: IntType) -> IntType
@@ -59,6 +60,24 @@ fn end_runs(
     }
 }
 
+// of a comparison the operands are settled: what a test chose, where the test is known by where runs are
+fn operand(alloc: Global, sym: &mut Sym, op: BinOp, x: &Bits) -> Result<Bits, OutOfMemory>
+    requires live_in { IsIn sym.old.net sym.old.live }
+    requires x_in { AreIn sym.old.net x.now.bits }
+    ensures same { sym.new ≡ sym.old }
+    ensures alike { IfOk result (λ r. AreAlike sym.old.net (λ v. holds v sym.old.net sym.old.live) x.now.bits r.bits) }
+{
+    let here = sym.live;
+    let bits = match op {
+        BinOp::Lt | BinOp::Le | BinOp::Gt | BinOp::Ge | BinOp::Eq | BinOp::Ne => {
+            sym.net.settled(alloc, here, x.bits.as_slice())?
+        }
+        _ => x.bits.as_slice().to_vec(alloc)?,
+    };
+    let bits = Seq::from_vec(bits);
+    Ok(Bits { bits })
+}
+
 /// An operator of two numbers, whose sides are converted first; a bit says where a violation counts.
 pub fn operate(
     alloc: Global,
@@ -87,8 +106,10 @@ pub fn operate(
     let model = program.model;
     let ty = type_for(model, op, a, b);
     let right = right_type_for(model, op, ty, b);
-    let u = convert_bits(alloc, &mut sym.net, model, a, ty, x)?;
-    let w = convert_bits(alloc, &mut sym.net, model, b, right, y)?;
+    let x = operand(alloc, sym, op, x)?;
+    let y = operand(alloc, sym, op, y)?;
+    let u = convert_bits(alloc, &mut sym.net, model, a, ty, &x)?;
+    let w = convert_bits(alloc, &mut sym.net, model, b, right, &y)?;
     let out = apply_bits(alloc, &mut sym.net, model, op, ty, &u, right, &w)?;
     end_runs(sym, program, at, counts, out.overflow, out.undefined)?;
     Ok(out.value)

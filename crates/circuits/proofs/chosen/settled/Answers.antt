@@ -21,3 +21,8 @@ loop-choice-preserved c =
 
 pub rest_of_word-requires-clause-word_in : goal.rest_of_word-requires-clause-word_in
 rest_of_word-requires-clause-word_in c = rw c.deref-in-loop-choice.ensures.value c.loop-choice.invariant.inside
+
+pub returns-then-not-is_word : goal.returns-then-not-is_word
+returns-then-not-is_word c =
+    let net = c.args.nodes.now in
+    subst (λ l. AreAlike net (λ v. holds v net c.args.live) c.args.bits.now l) (sym (c.in_ok-same.ensures.items_if_clones_equal (λ x y e. e))) (alike_words c.args.bits.now c.requires.bits_in)
