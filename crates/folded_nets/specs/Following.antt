@@ -1,5 +1,5 @@
 -- A net that follows another one: copies of the first nodes of a net.
-use Rattle.std.specs.Prelude.{◌≡◌, ℕ, ◌+◌, ◌<◌, ◌≤◌, Bool, false, ◌&&◌, List, ◌++◌, length, take, slice_index_or}
+use Rattle.std.specs.Prelude.{◌≡◌, ℕ, ◌+◌, ◌<◌, ◌≤◌, Bool, false, not, ◌&&◌, List, ◌++◌, length, take, slice_index_or}
 use Rattle.std.specs.List.{All}
 use Rattle.circuits.specs.declared.net.Bit.{Bit}
 use Rattle.circuits.specs.declared.net.NetNode.{NetNode}
@@ -14,6 +14,10 @@ node_holds v net at = holds v net (record { node = at; negated = false })
 -- no inputs make a bit true
 abbrev pub IsNever : List NetNode → Bit → Type 0
 IsNever net b = (v : ℕ → Bool) → holds v net b ≡ false
+
+-- the copy of such a bit's node: a constant
+abbrev pub never_true : Bit → Bit
+never_true b = record { node = 0; negated = not b.negated }
 
 -- two bits of a net that are never true together
 pub record AreApart (net : List NetNode) (p : Apart) : Type 0 where

@@ -1,7 +1,7 @@
 // A net that follows another one.
-ghost use Rattle.std.specs.Prelude.{◌≡◌, ℕ, Bool, ◌+◌, ◌<◌, ◌≤◌, ◌^◌, ◌&&◌, false, IfOk, OnOk, IfSome, length};
+ghost use Rattle.std.specs.Prelude.{◌≡◌, ℕ, Bool, ◌+◌, ◌<◌, ◌≤◌, ◌==◌, ◌^◌, ◌&&◌, false, IfOk, OnOk, IfSome, length, set};
 ghost use Rattle.circuits.specs.Net.{holds, Grown, IsIn, Means};
-ghost use Rattle.folded_nets.specs.Following.{AreAllApart, Follows, AreApart, IsBut, IsNever, IsNextOf, SameBut};
+ghost use Rattle.folded_nets.specs.Following.{AreAllApart, Follows, AreApart, IsBut, IsNever, IsNextOf, SameBut, never_true};
 
 use crate::pairs::{Apart, told};
 use circuits::{Bit, Net, NetNode, not};
@@ -40,7 +40,9 @@ impl FoldedNet {
     }
 
     /// Whether nothing is known that makes a copy smaller.
-    pub fn is_plain(&self) -> bool {
+    pub fn is_plain(&self) -> bool
+        ensures { result ≡ (length self.now.apart.items == 0) }
+    {
         self.apart.is_empty()
     }
 
@@ -181,12 +183,14 @@ impl FoldedNet {
         }
     }
 
-    /// Keeps in mind that no inputs make a bit true that is copied.
+    /// Keeps in mind that no inputs make a bit true that is copied. After a refusal nothing is promised of it.
     pub fn note_never(&mut self, old: &Net, bit: Bit) -> Result<(), OutOfMemory>
         requires follows { Follows old.now self.old }
         requires copied { bit.node < length self.old.copies.items }
         requires never { IsNever old.now bit }
         ensures follows { OnOk result (Follows old.now self.new) }
+        ensures told { OnOk result (self.new.copies.items ≡ set self.old.copies.items bit.node (never_true bit)) }
+        ensures same { OnOk result (self.new.net ≡ self.old.net) }
     {
         let _ = self.net.nodes();
         let copy = self.copy_of(old, bit);

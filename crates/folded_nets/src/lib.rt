@@ -4,5 +4,7 @@
 
 mod folded;
 mod pairs;
+#[cfg(test)]
+mod tests;
 
 pub use folded::FoldedNet;

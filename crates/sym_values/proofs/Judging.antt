@@ -1,7 +1,7 @@
 -- Where a run ends at an operator.
 use Rattle.std.proofs.Common.{◌≡◌, ℕ, zero, suc, ◌+◌, Bool, true, false, not, ◌&&◌, ◌||◌, ℤ, List, [], ◌∷◌, length, refl, sym, ◌∙◌, ap, ap₂, subst, arith, cond, Option, Some, None}
 use Rattle.c_core.specs.Tree.{Program}
-use Rattle.c_core.specs.Types.{fit, promote_of}
+use Rattle.c_core.specs.Types.{fit, is_signed, promote_of, width_of}
 use Rattle.c_core.specs.Operators.{apply_of, apply_one_of, type_for, right_type_for}
 use Rattle.c_core.specs.declared.number.IntType.{IntType}
 use Rattle.c_core.specs.declared.number.BinOp.{BinOp}
@@ -14,19 +14,22 @@ use Rattle.c_core.specs.declared.number.Done.{Done}
 use Rattle.c_core.specs.declared.number.Done.TheVariants.{Value, Overflow, Undefined}
 use Rattle.sym_meaning.specs.Mode.{Mode}
 use Rattle.c_meaning.specs.declared.run.Event.TheVariants.{Fail}
+use Rattle.c_meaning.specs.Eval.{operate}
 use Rattle.c_meaning.specs.Havoc.{Passes, Fails}
-use Rattle.sym_meaning.specs.Judged.{answered, overflowed}
+use Rattle.sym_meaning.specs.Judged.{judged as meaning, answered, overflowed}
 use Rattle.circuits.specs.declared.net.Bit.{Bit}
 use Rattle.circuits.specs.declared.net.NetNode.{NetNode}
 use Rattle.circuits.specs.declared.bits.Outcome.{Outcome}
 use Rattle.circuits.specs.Net.{holds, Grown, IsIn}
-use Rattle.circuits.specs.Numbers.{typed, AreTyped, Reads}
+use Rattle.circuits.specs.Chosen.{AreAlike}
+use Rattle.circuits.specs.Facts.{Condition}
+use Rattle.circuits.specs.Numbers.{number, read, typed, AreTyped, Reads}
 use Rattle.circuits.specs.Outcome as C
 use Rattle.circuits.proofs.Nets.{grown_then, longer}
 use Rattle.sym_state.specs.declared.state.Sym.{Sym}
 use Rattle.sym_state.specs.declared.state.Around.{Around}
 use Rattle.sym_state.specs.Standing.{Stand, stand, IsState, IsHere, Turned, marks, marked, number_of_end, stopped, violated}
-use Rattle.sym_state.specs.Following.{left_of, Came}
+use Rattle.sym_state.specs.Following.{IsNumber, left_of, Came}
 use Rattle.sym_state.proofs.Nets.{added_of, added_then, holds_added, typed_added, are_typed_added, state_grown, stand_grown}
 use Rattle.sym_state.proofs.Composed.{turned_follows}
 use Rattle.sym_values.specs.Valuing.{where_of, judged, IsDutyAt, CountsWhere, Gives, operated, operated_one, operated_cost, operated_one_cost}
@@ -179,6 +182,33 @@ module _ (p : Program) (at : Around) (spot : Spot) (op : BinOp) (a b : IntType) 
       subst (λ t. Gives p W (5 + (C.conversion_cost p.model a (type_for p.model op a b) + (C.conversion_cost p.model b t + C.binary_cost p.model op (type_for p.model op a b)))) 0 s n (Some (C.binary_type op (type_for p.model op a b))) o.value.bits (λ v l. answered p W (where_of at) (done_in (type_for p.model op a b) t v) l)) er
       (subst (λ t. Gives p W (5 + (C.conversion_cost p.model a t + (C.conversion_cost p.model b right + C.binary_cost p.model op t))) 0 s n (Some (C.binary_type op t)) o.value.bits (λ v l. answered p W (where_of at) (done_in t right v) l)) et
       (in_types ty right W d m h iy g1 r1 g2 r2 g3 c z))
+
+-- bits that have the number of others where a run is are of the same type
+pub alike_typed : {here : Condition} {bits rest : List Bit} (p : Program) (net : List NetNode) (ty : IntType) → AreTyped p.model ty net bits → AreAlike net here bits rest → AreTyped p.model ty net rest
+alike_typed p net ty h a = record { inside = a.inside; wide = a.wide ∙ h.wide }
+
+-- an operator of such sides
+module _ (p : Program) (W : Mode) (at : Around) (spot : Spot) (op : BinOp) (a b ty : IntType) (s n : Sym) (x y u w value : List Bit) (cost : ℕ) where
+  abbrev does_on : (ℕ → Bool) → List ℤ → List ℤ → ℕ → ℕ → Type 0
+  does_on v vs rest i j =
+      Came W.duties (IsNumber p.model (Some ty) n.net value v) (stand p v n) rest
+      (operate p (meaning p W) (where_of at) spot op a (read (width_of p.model a) (is_signed a) i) b (read (width_of p.model b) (is_signed b) j) (left_of (stand p v s) vs))
+
+  pub operated_alike : AreAlike s.net (λ v. holds v s.net s.live) x u → AreAlike s.net (λ v. holds v s.net s.live) y w
+      → Gives p W cost 0 s n (Some ty) value (operated p W at spot op a u b w s) → Gives p W cost 0 s n (Some ty) value (operated p W at spot op a x b y s)
+  operated_alike left right g = record {
+    bits_in = g.bits_in;
+    follows = record {
+      fits = g.follows.fits;
+      added = g.follows.added;
+      level = g.follows.level;
+      result = g.follows.result;
+      moves = g.follows.moves;
+      does = λ v here vs rest taken.
+          subst (λ j. does_on v vs rest (number v s.net x) j) (sym (right.is v here.live))
+          (subst (λ i. does_on v vs rest i (number v s.net w)) (sym (left.is v here.live)) (g.follows.does v here vs rest taken));
+    };
+  }
 
 module _ (p : Program) (at : Around) (op : UnOp) (a : IntType) (s n : Sym) (x u : List Bit) (o : Outcome) (c0 : Bit) (one net : List NetNode) where
   abbrev one_in : IntType → (ℕ → Bool) → Done

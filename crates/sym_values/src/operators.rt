@@ -14,7 +14,7 @@ ghost use Rattle.sym_values.specs.Valuing.{judged, operated_cost, operated_one_c
 use c_core::{
     BinOp, DataModel, IntType, Program, Property, Spot, UnOp, is_shift, promote, type_for,
 };
-use circuits::{Bit, Bits, apply_bits, convert_bits, one_bits};
+use circuits::{Bit, Bits, Net, apply_bits, convert_bits, one_bits};
 use std::alloc::Global;
 use sym_state::{Around, Sym, stop, violate};
 use wv_base::{OutOfMemory, Seq};
@@ -60,22 +60,63 @@ fn end_runs(
     }
 }
 
-// of a comparison the operands are settled: what a test chose, where the test is known by where runs are
-fn operand(alloc: Global, sym: &mut Sym, op: BinOp, x: &Bits) -> Result<Bits, OutOfMemory>
-    requires live_in { IsIn sym.old.net sym.old.live }
-    requires x_in { AreIn sym.old.net x.now.bits }
-    ensures same { sym.new ≡ sym.old }
-    ensures alike { IfOk result (λ r. AreAlike sym.old.net (λ v. holds v sym.old.net sym.old.live) x.now.bits r.bits) }
+// A side of an operator. Of a comparison it is settled: where a test that chose it is known by where runs are, it is the word that the
+// test chose.
+fn side(
+    alloc: Global,
+    net: &mut Net,
+    live: Bit,
+    op: BinOp,
+    x: &Bits,
+) -> Result<Bits, OutOfMemory>
+    requires live_in { IsIn net.old live }
+    requires x_in { AreIn net.old x.now.bits }
+    ensures same { net.new ≡ net.old }
+    ensures alike { IfOk result (λ r. AreAlike net.old (λ v. holds v net.old live) x.now.bits r.bits) }
 {
-    let here = sym.live;
     let bits = match op {
         BinOp::Lt | BinOp::Le | BinOp::Gt | BinOp::Ge | BinOp::Eq | BinOp::Ne => {
-            sym.net.settled(alloc, here, x.bits.as_slice())?
+            net.settled(alloc, live, x.bits.as_slice())?
         }
         _ => x.bits.as_slice().to_vec(alloc)?,
     };
     let bits = Seq::from_vec(bits);
     Ok(Bits { bits })
+}
+
+// An operator of two numbers as they stand.
+fn operate_on(
+    alloc: Global,
+    program: &Program,
+    sym: &mut Sym,
+    at: Around,
+    counts: Bit,
+    spot: Spot,
+    op: BinOp,
+    a: IntType,
+    x: &Bits,
+    b: IntType,
+    y: &Bits,
+) -> Result<Bits, OutOfMemory>
+    requires fits { IsState (program_view program.now) sym.old }
+    requires counts_in { IsIn sym.old.net counts }
+    requires x_in { AreTyped program.now.model a sym.old.net x.now.bits }
+    requires y_in { AreTyped program.now.model b sym.old.net y.now.bits }
+    requires room { length sym.old.net + operated_cost program.now.model op a b < 2 ^ 27 }
+    ensures { IfOk result (λ r. (W : Mode) → IsDutyAt (program_view program.now) W at
+        → CountsWhere (program_view program.now) W at None sym.old counts
+        → Gives (program_view program.now) W (operated_cost program.now.model op a b) 0 sym.old sym.new
+        (Some (binary_type op (operators.type_for program.now.model op a b))) r.bits
+        (operated (program_view program.now) W at spot op a x.now.bits b y.now.bits sym.old)) }
+{
+    let model = program.model;
+    let ty = type_for(model, op, a, b);
+    let right = right_type_for(model, op, ty, b);
+    let u = convert_bits(alloc, &mut sym.net, model, a, ty, x)?;
+    let w = convert_bits(alloc, &mut sym.net, model, b, right, y)?;
+    let out = apply_bits(alloc, &mut sym.net, model, op, ty, &u, right, &w)?;
+    end_runs(sym, program, at, counts, out.overflow, out.undefined)?;
+    Ok(out.value)
 }
 
 /// An operator of two numbers, whose sides are converted first; a bit says where a violation counts.
@@ -103,16 +144,10 @@ pub fn operate(
         (Some (binary_type op (operators.type_for program.now.model op a b))) r.bits
         (operated (program_view program.now) W at spot op a x.now.bits b y.now.bits sym.old)) }
 {
-    let model = program.model;
-    let ty = type_for(model, op, a, b);
-    let right = right_type_for(model, op, ty, b);
-    let x = operand(alloc, sym, op, x)?;
-    let y = operand(alloc, sym, op, y)?;
-    let u = convert_bits(alloc, &mut sym.net, model, a, ty, &x)?;
-    let w = convert_bits(alloc, &mut sym.net, model, b, right, &y)?;
-    let out = apply_bits(alloc, &mut sym.net, model, op, ty, &u, right, &w)?;
-    end_runs(sym, program, at, counts, out.overflow, out.undefined)?;
-    Ok(out.value)
+    let live = sym.live;
+    let left = side(alloc, &mut sym.net, live, op, x)?;
+    let right = side(alloc, &mut sym.net, live, op, y)?;
+    operate_on(alloc, program, sym, at, counts, spot, op, a, &left, b, &right)
 }
 
 /// An operator of one number, which is promoted first; a bit says where a violation counts.
