@@ -286,6 +286,29 @@ fn act_rarely<W: Watcher>(
     }
 }
 
+// The same, with an answer of its own: the answer of `act` then needs no place in memory.
+#[inline(always)]
+fn act_apart<W: Watcher>(
+    code: &Code,
+    control: &mut Control,
+    run: &mut Running,
+    watcher: &mut W,
+    action: &Action,
+) -> Result<(), Halt>
+    requires { IsRare action.now }
+    ensures acts { Acts result (control_of control.new) (state_of run.new (W.seen watcher.new))
+        (acted code.now W.Seen W.after action.now (control_of control.old) (state_of run.old (W.seen watcher.old))) }
+    ensures front { OnBroken result (SawFront W.after (events_of code.now action.now (control_of control.old)
+        (state_of run.old [])) (W.seen watcher.old) (W.seen watcher.new)) }
+    ensures kept { KeepsStacks control.old control.new }
+    ensures rooms { KeepsRooms run.old run.new }
+    ensures lasting { W.sure → HasSpare control.old → IsCounted run.old
+        → GoesInRoom run.old (acted code.now W.Seen W.after action.now (control_of control.old)
+        (state_of run.old (W.seen watcher.old))) → Lasts result }
+{
+    act_rarely(code, control, run, watcher, action)
+}
+
 /// Does an action; `control.at` is the address behind it.
 #[inline(always)]
 pub fn act<W: Watcher>(
@@ -349,6 +372,6 @@ pub fn act<W: Watcher>(
             control.at = *to as usize;
             Ok(())
         }
-        _ => act_rarely(code, control, run, watcher, action),
+        _ => act_apart(code, control, run, watcher, action),
     }
 }

@@ -1,12 +1,11 @@
 // Operations, one after another.
 ghost use Rattle.std.specs.Prelude.{◌≡◌, ◌+◌, ◌-◌, nat_le, true, false, []};
-ghost use Rattle.flow_laws.specs.Stepping.{step as step_of, steps as steps_of};
-ghost use Rattle.run_state.specs.Fronts.{SawFront};
-ghost use Rattle.flow_machine.specs.Fronts.{IfBroken, OnBroken, SawSome, events_in, events_next};
+ghost use Rattle.flow_laws.specs.Stepping.{steps as steps_of};
+ghost use Rattle.flow_machine.specs.Fronts.{IfBroken, SawSome, events_in};
 ghost use Rattle.flow_machine.specs.Runs.{Halts};
 ghost use Rattle.flow_rooms.specs.Paces.{IsPaced, IsInOrder};
-ghost use Rattle.flow_machine.specs.Rooms.{HasSpare, IsCounted, IsEnd, KeepsRooms, KeepsStacks, Lasts, StaysWithin, TurnsInRoom};
-ghost use Rattle.flow_machine.specs.Views.{Steps, machine_of};
+ghost use Rattle.flow_machine.specs.Rooms.{IsEnd, KeepsRooms, KeepsStacks, StaysWithin};
+ghost use Rattle.flow_machine.specs.Views.{machine_of};
 
 use crate::acting::act;
 use crate::control::{Control, Running};
@@ -36,34 +35,6 @@ fn pay(control: &mut Control, run: &mut Running, steps: u32) -> bool
     false
 }
 
-// One operation.
-#[inline]
-fn step<W: Watcher>(
-    code: &Code,
-    control: &mut Control,
-    run: &mut Running,
-    watcher: &mut W,
-) -> Result<(), Halt>
-    ensures steps { Steps result (machine_of control.new run.new (W.seen watcher.new))
-        (step_of code.now W.Seen W.after (machine_of control.old run.old (W.seen watcher.old))) }
-    ensures front { OnBroken result (SawFront W.after (events_next code.now (machine_of control.old run.old []))
-        (W.seen watcher.old) (W.seen watcher.new)) }
-    ensures kept { KeepsStacks control.old control.new }
-    ensures rooms { KeepsRooms run.old run.new }
-    ensures lasting { W.sure → HasSpare control.old → IsCounted run.old
-        → TurnsInRoom run.old (step_of code.now W.Seen W.after (machine_of control.old run.old (W.seen watcher.old)))
-        → Lasts result }
-{
-    let Some(op) = code.ops.as_slice().get(control.at) else {
-        return Err(Halt::Ends(End::Ended));
-    };
-    if !pay(control, run, op.steps) {
-        return Err(Halt::Ends(End::Spent));
-    }
-    control.at += 1;
-    act(code, control, run, watcher, &op.action)
-}
-
 /// Operations until the run ends or its steps are spent.
 pub fn go<W: Watcher>(
     code: &Code,
@@ -83,7 +54,15 @@ pub fn go<W: Watcher>(
         (λ n. steps_of code.now W.Seen W.after n (machine_of control.old run.old (W.seen watcher.old))) → IsEnd result }
 {
     'turns: loop {
-        if let Err(halt) = step(code, control, run, watcher) {
+        // the action's answer is looked at here, so that it needs no place in memory
+        let Some(op) = code.ops.as_slice().get(control.at) else {
+            return Halt::Ends(End::Ended);
+        };
+        if !pay(control, run, op.steps) {
+            return Halt::Ends(End::Spent);
+        }
+        control.at += 1;
+        if let Err(halt) = act(code, control, run, watcher, &op.action) {
             return halt;
         }
     }

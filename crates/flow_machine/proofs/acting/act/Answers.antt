@@ -51,5 +51,5 @@ returns-in-Operate-clause-front g c = none_broken g.W.Watcher.after c.operate_tw
 pub returns-in-OperateOne-clause-front : goal.returns-in-OperateOne-clause-front
 returns-in-OperateOne-clause-front g c = none_broken g.W.Watcher.after c.operate_alone.result _ _ _ c.operate_alone.ensures.still
 
-pub act_rarely-requires : goal.act_rarely-requires
-act_rarely-requires g c = rare c.args.action.now c.in_default.not-Rest c.in_default.not-Arrive c.in_default.not-Give c.in_default.not-Truth c.in_default.not-Convert c.in_default.not-Look c.in_default.not-Operate c.in_default.not-OperateOne c.in_default.not-Jump
+pub act_apart-requires : goal.act_apart-requires
+act_apart-requires g c = rare c.args.action.now c.in_default.not-Rest c.in_default.not-Arrive c.in_default.not-Give c.in_default.not-Truth c.in_default.not-Convert c.in_default.not-Look c.in_default.not-Operate c.in_default.not-OperateOne c.in_default.not-Jump

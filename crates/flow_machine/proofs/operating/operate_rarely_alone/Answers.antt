@@ -1,5 +1,5 @@
 use Rattle.flow_machine.proofs.Lasting.{stacks_kept}
-use Rattle.flow_machine.proofs.operating.operate_alone.Goals as goal
+use Rattle.flow_machine.proofs.operating.operate_rarely_alone.Goals as goal
 
 pub returns-clause-kept : goal.returns-clause-kept
 returns-clause-kept g c = stacks_kept c.args.control.now c.take-a.new.control c.conclude.new.control c.take-a.ensures.kept c.conclude.ensures.kept
