@@ -75,6 +75,27 @@ impl Control {
     }
 }
 
+// Shows the watcher an event in full, apart from what is done often.
+#[inline(never)]
+fn show_rarely<W: Watcher>(run: &Running, watcher: &mut W, event: Event) -> Result<(), OutOfMemory>
+    ensures seen { OnOk result (W.seen watcher.new ≡ W.after event run.now.memory.cells (W.seen watcher.old)) }
+    ensures refused { OnErr result (W.seen watcher.new ≡ W.seen watcher.old) }
+    ensures succeeds { W.sure → IsOk result }
+{
+    watcher.see(event, &run.memory)
+}
+
+// The same of a copy: an event that isn't shown in full then needs no place in memory.
+#[inline(always)]
+fn show_apart<W: Watcher>(run: &Running, watcher: &mut W, event: Event) -> Result<(), OutOfMemory>
+    ensures seen { OnOk result (W.seen watcher.new ≡ W.after event run.now.memory.cells (W.seen watcher.old)) }
+    ensures refused { OnErr result (W.seen watcher.new ≡ W.seen watcher.old) }
+    ensures succeeds { W.sure → IsOk result }
+{
+    let shown = event;
+    show_rarely(run, watcher, shown)
+}
+
 /// Shows the watcher an event: its place alone, where that suffices, or else the event.
 #[inline(always)]
 pub fn show<W: Watcher>(run: &Running, watcher: &mut W, event: Event) -> Result<(), OutOfMemory>
@@ -87,7 +108,7 @@ pub fn show<W: Watcher>(run: &Running, watcher: &mut W, event: Event) -> Result<
             return Ok(());
         }
     }
-    watcher.see(event, &run.memory)
+    show_apart(run, watcher, event)
 }
 
 /// Tells the watcher an event.
