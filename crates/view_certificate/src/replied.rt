@@ -22,6 +22,7 @@ fn stages() -> Question<'static> {
     Question {
         budgets: LEAST,
         values: None,
+        program: None,
     }
 }
 

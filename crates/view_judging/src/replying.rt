@@ -1,15 +1,17 @@
 // The reply of the validator to three files.
+use c_core::Program;
 use std::alloc::Global;
 use view_inputs::{Asking, ReplySink};
-use witval::run;
+use witval::run_keeping;
 use wv_arguments::Names;
 use wv_base::{OutOfMemory, Shelf, SteadyShelf};
 
-/// A reply as the validator wrote it, with its status.
+/// A reply as the validator wrote it, with its status, and the checked program where the answer came to it.
 #[derive(Drop)]
 pub struct Replied {
     pub status: u8,
     pub reply: Vec<u8>,
+    pub program: Option<Program>,
 }
 
 /// The mode of the validator that answers it.
@@ -73,13 +75,15 @@ fn reply_to<S: Shelf>(
     shelf: &mut S,
 ) -> Result<Replied, OutOfMemory> {
     let mut sink = ReplySink::new(alloc);
-    let status = run(alloc, words, shelf, &mut sink);
+    let mut program = None;
+    let status = run_keeping(alloc, words, shelf, &mut sink, &mut program);
     if status == 6 || sink.has_failed() {
         return Err(OutOfMemory);
     }
     Ok(Replied {
         status,
         reply: sink.into_bytes(),
+        program,
     })
 }
 

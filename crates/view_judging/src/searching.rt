@@ -1,4 +1,5 @@
 // What there is to say of a search for values.
+use c_core::Program;
 use std::alloc::Global;
 use view_program::{Question, explain};
 use view_text::{File, Files, Messages, advice};
@@ -36,12 +37,14 @@ fn explain_found(
     alloc: Global,
     files: &Files<'_>,
     reply: &str,
+    program: Option<&Program>,
     out: &mut Messages,
 ) -> Result<(), OutOfMemory> {
     let values = values_in(alloc, reply)?;
     let question = Question {
         budgets: OF_A_RUN,
         values: Some(values.as_slice()),
+        program,
     };
     explain(alloc, files, question, out)
 }
@@ -78,11 +81,12 @@ pub fn explain_search(
     alloc: Global,
     files: &Files<'_>,
     reply: &str,
+    program: Option<&Program>,
     out: &mut Messages,
 ) -> Result<(), OutOfMemory> {
     let first = reply.lines().next().unwrap_or("");
     if first == "values found" {
-        explain_found(alloc, files, reply, out)
+        explain_found(alloc, files, reply, program, out)
     } else if first.starts_with("no values") {
         let more = "a larger --bound, weaker constraints or fewer waypoints to avoid may give some";
         explain_none(alloc, "none", more, out)
@@ -97,6 +101,7 @@ pub fn explain_search(
         let question = Question {
             budgets: OF_A_RUN,
             values: None,
+            program,
         };
         explain(alloc, files, question, out)
     }

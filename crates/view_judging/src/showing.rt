@@ -1,6 +1,7 @@
 // One judgement: the reply of the validator, and what there is to look at.
 use crate::replying::{Replied, replied_to};
 use crate::searching::explain_search;
+use c_core::Program;
 use std::alloc::Global;
 use view_certificate::explain_certificate;
 use view_inputs::{Asking, Form, Keeping};
@@ -40,6 +41,7 @@ fn explain_reply(
     alloc: Global,
     files: &Files<'_>,
     reply: &str,
+    program: Option<&Program>,
     asking: Asking<'_>,
     messages: &mut Messages,
 ) -> Result<(), OutOfMemory> {
@@ -48,11 +50,12 @@ fn explain_reply(
             let question = Question {
                 budgets,
                 values: None,
+                program,
             };
             explain(alloc, files, question, messages)
         }
         Asking::Recheck(_) => explain_certificate(alloc, files, reply, messages),
-        Asking::Seek(_) => explain_search(alloc, files, reply, messages),
+        Asking::Seek(_) => explain_search(alloc, files, reply, program, messages),
     }
 }
 
@@ -70,7 +73,17 @@ pub fn messages_of(
             let told = String::from_str(alloc, advice(code))?;
             messages.error(code, file, None, told)?;
         }
-        None => explain_reply(alloc, files, reply.as_str(), asking, &mut messages)?,
+        None => {
+            let program = replied.program.as_ref();
+            explain_reply(
+                alloc,
+                files,
+                reply.as_str(),
+                program,
+                asking,
+                &mut messages,
+            )?;
+        }
     }
     Ok(messages)
 }

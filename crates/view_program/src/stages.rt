@@ -17,11 +17,13 @@ use wv_schema::{Content, Entry, Witness, witness_of};
 use wv_task::{judge_task, property};
 use wv_yaml::{Tree, read};
 
-/// What is asked about the files: the budgets, and of a violation sequence the values of a run where these are known.
-#[derive(Clone, Copy, Debug)]
+/// What is asked about the files: the budgets, and of a violation sequence the values of a run where these are known. The
+/// program, where the answer came to it, isn't read and checked again.
+#[derive(Clone, Copy)]
 pub struct Question<'a> {
     pub budgets: Budgets,
     pub values: Option<&'a [i128]>,
+    pub program: Option<&'a Program>,
 }
 
 /// More conflicts aren't spent.
@@ -105,6 +107,9 @@ fn explain_text(
     witness: &Witness,
     out: &mut Messages,
 ) -> Result<(), OutOfMemory> {
+    if let Some(program) = question.program {
+        return explain_program(alloc, files, question, program, witness, out);
+    }
     match read_source(alloc, files.text(File::Program)) {
         Spelling::Source(source) => explain_source(
             alloc, files, question, &source, model, property, witness, out,

@@ -1,4 +1,5 @@
 pub mod Inputs
+pub mod Kept
 pub mod Refusals
 pub mod Stages
 pub mod Tasks

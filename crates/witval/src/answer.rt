@@ -1,5 +1,6 @@
-ghost use Rattle.std.specs.Prelude.{◌≡◌, ◌≤◌, IfOk};
+ghost use Rattle.std.specs.Prelude.{◌≡◌, ◌≤◌, None, IfOk};
 ghost use Rattle.witval.specs.Inputs.{AreWithin};
+ghost use Rattle.witval.specs.Kept.{KeepsFor, KeepsOf};
 ghost use Rattle.witval.specs.Purposes.{Rechecking, RightOnInputs};
 ghost use Rattle.witval.specs.Replies.{CanonicalIn, IsStopped, IsStoppedAtSource, IsStoppedOfFour, Right, RightAlone, RightAuthor, RightCertificate, RightDemo, RightRecheck, RightSeek, RightVerdict, RightWeed, SummaryIn};
 ghost use Rattle.witval.specs.Running.{HasIntegers};
@@ -18,6 +19,7 @@ use crate::refusal::{
     refuse_too_long, source_fault,
 };
 use crate::shown::shown;
+use c_core::Program;
 use std::alloc::Global;
 use wv_arguments::{Asked, Budgets, Label, Names, Request, Sources};
 use wv_base::{OutOfMemory, ReadFault, Seq, Shelf};
@@ -57,21 +59,25 @@ fn stopped_at_source(alloc: Global, stop: Stop) -> Result<Reply, OutOfMemory>
     }
 }
 
-/// The verdict on a program, a property and a witness.
+/// The verdict on a program, a property and a witness; the checked program is kept.
+#[tactic(auto, using(crate::proofs::Keeping::nothing_kept))]
 fn validate<S: Shelf>(
     alloc: Global,
     names: &Names<'_>,
     budgets: Budgets,
     shelf: &mut S,
+    kept: &mut Option<Program>,
 ) -> Result<Output, OutOfMemory>
-    requires { IsAllowed (limits budgets) }
+    requires allowed { IsAllowed (limits budgets) }
+    requires none { kept.old ≡ None }
     ensures right { IfOk result (RightVerdict (named names.now) (limits budgets) (S.state shelf.old)
         (S.state shelf.new)) }
     ensures integers { IfOk result HasIntegers }
     ensures same_files { (S.state shelf.new).files ≡ (S.state shelf.old).files }
+    ensures kept { KeepsOf (named names.now).program (S.state shelf.old) kept.new }
 {
     match read_three(alloc, names, shelf) {
-        Ok(inputs) => judge(alloc, &inputs, Purpose::Judge(budgets)),
+        Ok(inputs) => judge(alloc, &inputs, Purpose::Judge(budgets), kept),
         Err(stop) => Ok(Output::Report(stopped(alloc, stop)?)),
     }
 }
@@ -89,7 +95,7 @@ fn certify<S: Shelf>(
     ensures same_files { (S.state shelf.new).files ≡ (S.state shelf.old).files }
 {
     match read_three(alloc, names, shelf) {
-        Ok(inputs) => judge(alloc, &inputs, Purpose::Certify(conflicts)),
+        Ok(inputs) => judge(alloc, &inputs, Purpose::Certify(conflicts), &mut None),
         Err(stop) => Ok(Output::Report(stopped(alloc, stop)?)),
     }
 }
@@ -102,7 +108,7 @@ fn recheck_four(alloc: Global, four: FourInputs) -> Result<Output, OutOfMemory>
         four.inputs.witness.items) }
 {
     let certificate = Seq::from_vec(four.certificate);
-    judge(alloc, &four.inputs, Purpose::Recheck(certificate))
+    judge(alloc, &four.inputs, Purpose::Recheck(certificate), &mut None)
 }
 
 /// A certificate of a program, a property and a witness, checked again.
@@ -136,7 +142,7 @@ fn weed<S: Shelf>(
     ensures same_files { (S.state shelf.new).files ≡ (S.state shelf.old).files }
 {
     match read_three(alloc, names, shelf) {
-        Ok(inputs) => judge(alloc, &inputs, Purpose::Weed(conflicts)),
+        Ok(inputs) => judge(alloc, &inputs, Purpose::Weed(conflicts), &mut None),
         Err(stop) => Ok(Output::Report(stopped(alloc, stop)?)),
     }
 }
@@ -149,22 +155,26 @@ fn turns_of(turns: u64) -> u32
     turns as u32
 }
 
-/// Values for the open inputs of a violation witness.
+/// Values for the open inputs of a violation witness; the checked program is kept.
+#[tactic(auto, using(crate::proofs::Keeping::nothing_kept))]
 fn seek<S: Shelf>(
     alloc: Global,
     names: &Names<'_>,
     turns: u64,
     conflicts: u64,
     shelf: &mut S,
+    kept: &mut Option<Program>,
 ) -> Result<Output, OutOfMemory>
-    requires { IsSearch turns conflicts }
+    requires allowed { IsSearch turns conflicts }
+    requires none { kept.old ≡ None }
     ensures right { IfOk result (RightSeek (named names.now) turns conflicts (S.state shelf.old) (S.state shelf.new)) }
     ensures integers { IfOk result HasIntegers }
     ensures same_files { (S.state shelf.new).files ≡ (S.state shelf.old).files }
+    ensures kept { KeepsOf (named names.now).program (S.state shelf.old) kept.new }
 {
     let turns = turns_of(turns);
     match read_three(alloc, names, shelf) {
-        Ok(inputs) => judge(alloc, &inputs, Purpose::Seek { turns, conflicts }),
+        Ok(inputs) => judge(alloc, &inputs, Purpose::Seek { turns, conflicts }, kept),
         Err(stop) => Ok(Output::Report(stopped(alloc, stop)?)),
     }
 }
@@ -239,14 +249,17 @@ pub fn answer<S: Shelf>(
     alloc: Global,
     asked: &Asked<'_>,
     shelf: &mut S,
+    kept: &mut Option<Program>,
 ) -> Result<Output, OutOfMemory>
-    requires { AreAllowed (stated asked.now).wanted }
+    requires allowed { AreAllowed (stated asked.now).wanted }
+    requires none { kept.old ≡ None }
     ensures right { IfOk result (Right (stated asked.now).wanted (S.state shelf.old) (S.state shelf.new)) }
     ensures integers { IfOk result HasIntegers }
     ensures same_files { (S.state shelf.new).files ≡ (S.state shelf.old).files }
+    ensures kept { KeepsFor (stated asked.now).wanted (S.state shelf.old) kept.new }
 {
     match asked.request {
-        Some(Request::Validate { names, budgets }) => validate(alloc, &names, budgets, shelf),
+        Some(Request::Validate { names, budgets }) => validate(alloc, &names, budgets, shelf, kept),
         Some(Request::Normalise(name)) => normalise(alloc, name, shelf),
         Some(Request::Show(name)) => show(alloc, name, shelf),
         Some(Request::Demo { number, budgets }) => demo(alloc, number, budgets),
@@ -266,7 +279,7 @@ pub fn answer<S: Shelf>(
                 turns,
                 conflicts,
             },
-        ) => seek(alloc, &names, turns, conflicts, shelf),
+        ) => seek(alloc, &names, turns, conflicts, shelf, kept),
         None => Ok(Output::Report(refuse_plainly(alloc, "usage")?)),
     }
 }

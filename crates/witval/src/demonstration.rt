@@ -54,6 +54,7 @@ fn judge_made(
         program.as_str().as_bytes(),
         &bytes,
         Purpose::Judge(budgets),
+        &mut None,
     )?;
     Ok(reply_of(output))
 }

@@ -23,4 +23,4 @@ mod top;
 mod weeding;
 mod writing;
 
-pub use top::run;
+pub use top::{run, run_keeping};

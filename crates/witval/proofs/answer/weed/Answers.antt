@@ -5,11 +5,11 @@ use Rattle.witval.proofs.Weeded.{weed_if}
 use Rattle.witval.proofs.answer.weed.Goals as goal
 
 pub returns-in-Ok-clause-right : goal.returns-in-Ok-clause-right
-returns-in-Ok-clause-right g c = (weed_if (named c.args.names.now) c.args.conflicts _ _ c.in-Ok.inputs _ c.in-Ok.ensures.within c.in-Ok.ensures.inputs c.judge.ensures).0
+returns-in-Ok-clause-right g c = (weed_if (named c.args.names.now) c.args.conflicts _ _ c.in-Ok.inputs _ c.in-Ok.ensures.within c.in-Ok.ensures.inputs c.judge.ensures.right).0
 
 pub returns-in-Ok-clause-integers : goal.returns-in-Ok-clause-integers
 returns-in-Ok-clause-integers g c =
-    (weed_if (named c.args.names.now) c.args.conflicts (g.S.Shelf.state c.args.shelf.now) (g.S.Shelf.state c.args.shelf.now) c.in-Ok.inputs _ c.in-Ok.ensures.within c.in-Ok.ensures.inputs c.judge.ensures).1
+    (weed_if (named c.args.names.now) c.args.conflicts (g.S.Shelf.state c.args.shelf.now) (g.S.Shelf.state c.args.shelf.now) c.in-Ok.inputs _ c.in-Ok.ensures.within c.in-Ok.ensures.inputs c.judge.ensures.right).1
 
 pub returns-in_ok-stopped-in-Err-clause-right : goal.returns-in_ok-stopped-in-Err-clause-right
 returns-in_ok-stopped-in-Err-clause-right g c = (stopped (named c.args.names.now) (Weeding c.args.conflicts) _ _ c.in-Err.stop _ c.in_ok-stopped-in-Err.ensures c.in-Err.ensures.stop).0

@@ -6,9 +6,9 @@ use Rattle.witval.proofs.judging.judge_tree.Goals as goal
 pub judge_witness-requires-clause-keys : goal.judge_witness-requires-clause-keys
 judge_witness-requires-clause-keys c = read_short c.args.tree.now c.in-Ok.witness c.requires.fits c.in-Ok.ensures.answer
 
-pub returns-in-Ok : goal.returns-in-Ok
-returns-in-Ok c = after_witness (meant c.args.purpose) c.args.property c.args.program.now c.args.tree.now c.in-Ok.witness _ c.in-Ok.ensures.answer c.judge_witness.ensures
+pub returns-in-Ok-clause-right : goal.returns-in-Ok-clause-right
+returns-in-Ok-clause-right c = after_witness (meant c.args.purpose) c.args.property c.args.program.now c.args.tree.now c.in-Ok.witness _ c.in-Ok.ensures.answer c.judge_witness.ensures.right
 
-pub returns-in_ok-refuse_schema-in-Err : goal.returns-in_ok-refuse_schema-in-Err
-returns-in_ok-refuse_schema-in-Err c =
+pub returns-in_ok-refuse_schema-in-Err-clause-right : goal.returns-in_ok-refuse_schema-in-Err-clause-right
+returns-in_ok-refuse_schema-in-Err-clause-right c =
     after_fault (meant c.args.purpose) c.args.property c.args.program.now c.args.tree.now c.in-Err.fault _ c.in-Err.ensures.answer c.in_ok-refuse_schema-in-Err.ensures
