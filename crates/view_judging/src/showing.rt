@@ -75,14 +75,7 @@ pub fn messages_of(
         }
         None => {
             let program = replied.program.as_ref();
-            explain_reply(
-                alloc,
-                files,
-                reply.as_str(),
-                program,
-                asking,
-                &mut messages,
-            )?;
+            explain_reply(alloc, files, reply.as_str(), program, asking, &mut messages)?;
         }
     }
     Ok(messages)

@@ -108,7 +108,12 @@ fn recheck_four(alloc: Global, four: FourInputs) -> Result<Output, OutOfMemory>
         four.inputs.witness.items) }
 {
     let certificate = Seq::from_vec(four.certificate);
-    judge(alloc, &four.inputs, Purpose::Recheck(certificate), &mut None)
+    judge(
+        alloc,
+        &four.inputs,
+        Purpose::Recheck(certificate),
+        &mut None,
+    )
 }
 
 /// A certificate of a program, a property and a witness, checked again.

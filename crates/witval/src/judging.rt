@@ -56,7 +56,14 @@ pub fn judge(
     ensures kept { Keeps inputs.now.program.items kept.new }
 {
     match property(&inputs.property) {
-        Ok(property) => judge_bytes(alloc, property, &inputs.program, &inputs.witness, purpose, kept),
+        Ok(property) => judge_bytes(
+            alloc,
+            property,
+            &inputs.program,
+            &inputs.witness,
+            purpose,
+            kept,
+        ),
         Err(_) => Ok(Output::Report(refuse_plainly(alloc, "property")?)),
     }
 }
