@@ -60,15 +60,9 @@ fn end_runs(
     }
 }
 
-// A side of an operator. Of a comparison it is settled: where a test that chose it is known by where runs are, it is the word that the
-// test chose.
-fn side(
-    alloc: Global,
-    net: &mut Net,
-    live: Bit,
-    op: BinOp,
-    x: &Bits,
-) -> Result<Bits, OutOfMemory>
+// A side of an operator. Of a comparison it is settled: where the test that chose it is known by where runs are, it is
+// the word that was chosen.
+fn side(alloc: Global, net: &mut Net, live: Bit, op: BinOp, x: &Bits) -> Result<Bits, OutOfMemory>
     requires live_in { IsIn net.old live }
     requires x_in { AreIn net.old x.now.bits }
     ensures same { net.new ≡ net.old }
@@ -147,7 +141,9 @@ pub fn operate(
     let live = sym.live;
     let left = side(alloc, &mut sym.net, live, op, x)?;
     let right = side(alloc, &mut sym.net, live, op, y)?;
-    operate_on(alloc, program, sym, at, counts, spot, op, a, &left, b, &right)
+    operate_on(
+        alloc, program, sym, at, counts, spot, op, a, &left, b, &right,
+    )
 }
 
 /// An operator of one number, which is promoted first; a bit says where a violation counts.

@@ -31,13 +31,27 @@ note_never-requires-clause-never c v =
 pub copy-requires-2-clause-room : goal.copy-requires-2-clause-room
 copy-requires-2-clause-room c =
     omega (
-      arith, ap length c.in_ok-net.ensures, one_more _ _ _ c.in_ok-a.ensures.added, one_more _ _ _ c.in_ok-b.ensures.added, one_more _ _ _ c.in_ok-c.ensures.added, (longer 1 _ _ c.and.ensures.grown).1,
-      (longer 1 _ _ c.and-2.ensures.grown).1, (longer 1 _ _ c.and-3.ensures.grown).1, (longer 1 _ _ c.and-4.ensures.grown).1,
+      arith,
+      ap length c.in_ok-net.ensures,
+      one_more _ _ _ c.in_ok-a.ensures.added,
+      one_more _ _ _ c.in_ok-b.ensures.added,
+      one_more _ _ _ c.in_ok-c.ensures.added,
+      (longer 1 _ _ c.and.ensures.grown).1,
+      (longer 1 _ _ c.and-2.ensures.grown).1,
+      (longer 1 _ _ c.and-3.ensures.grown).1,
+      (longer 1 _ _ c.and-4.ensures.grown).1,
     )
 
 pub copy-requires-3-clause-room : goal.copy-requires-3-clause-room
 copy-requires-3-clause-room c =
     omega (
-      arith, ap length c.in_ok-net.ensures, one_more _ _ _ c.in_ok-a.ensures.added, one_more _ _ _ c.in_ok-b.ensures.added, one_more _ _ _ c.in_ok-c.ensures.added, (longer 1 _ _ c.and.ensures.grown).1,
-      (longer 1 _ _ c.and-2.ensures.grown).1, (longer 1 _ _ c.and-3.ensures.grown).1, (longer 1 _ _ c.and-4.ensures.grown).1,
+      arith,
+      ap length c.in_ok-net.ensures,
+      one_more _ _ _ c.in_ok-a.ensures.added,
+      one_more _ _ _ c.in_ok-b.ensures.added,
+      one_more _ _ _ c.in_ok-c.ensures.added,
+      (longer 1 _ _ c.and.ensures.grown).1,
+      (longer 1 _ _ c.and-2.ensures.grown).1,
+      (longer 1 _ _ c.and-3.ensures.grown).1,
+      (longer 1 _ _ c.and-4.ensures.grown).1,
     )
