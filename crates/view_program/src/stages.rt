@@ -17,8 +17,8 @@ use wv_schema::{Content, Entry, Witness, witness_of};
 use wv_task::{judge_task, property};
 use wv_yaml::{Tree, read};
 
-/// What is asked about the files: the budgets, and of a violation sequence the values of a run where these are known. The
-/// program, where the answer came to it, isn't read and checked again.
+/// What is asked about the files: the budgets, and of a violation sequence the values of a run where these are known.
+/// The program, where the answer came to it, isn't read and checked again.
 #[derive(Clone, Copy)]
 pub struct Question<'a> {
     pub budgets: Budgets,

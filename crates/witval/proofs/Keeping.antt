@@ -1,5 +1,5 @@
 -- What is kept of a judgement, from the source to the arguments.
-use Rattle.std.proofs.Common.{◌≡◌, ℕ, List, Option, Some, None, IfSome, Ok, refl, sym, subst}
+use Rattle.std.proofs.Common.{◌≡◌, ℕ, List, Option, Some, None, IfSome, Ok, sym, subst}
 use Rattle.c_core.specs.declared.number.DataModel.{DataModel}
 use Rattle.c_core.specs.declared.number.Property.{Property}
 use Rattle.c_core.specs.declared.program.Program.{Program}
@@ -9,9 +9,9 @@ use Rattle.c_tokens.specs.Reading.{Answers as TokensAnswers}
 use Rattle.c_tokens.specs.declared.token.Token.{Token}
 use Rattle.wv_base.specs.Shelf.{ShelfState, Files, file_of}
 use Rattle.wv_arguments.specs.Words.{Command, Wanted, Validate, Show, Normalise, Demo, Certify, Recheck, Author, Weed, Seek}
-use Rattle.witval.specs.Inputs.{AreInputs, OfFiles, OfOne, Told, ToldOne}
+use Rattle.witval.specs.Inputs.{AreInputs, OfFiles, Told}
 use Rattle.witval.specs.declared.input.Inputs.{Inputs}
-use Rattle.witval.specs.Kept.{IsOfBytes, IsOfTokens, Keeps, KeepsFor, KeepsOf, KeepsOfSource, KeepsOfTokens}
+use Rattle.witval.specs.Kept.{Keeps, KeepsFor, KeepsOf, KeepsOfSource, KeepsOfTokens}
 
 -- where nothing is kept, nothing is said
 pub nothing_kept : {A : Type 0} (P : A → Type 0) (kept : Option A) → kept ≡ None → IfSome kept P

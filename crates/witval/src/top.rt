@@ -75,8 +75,8 @@ pub fn run<S: Shelf, O: Sink>(alloc: Global, words: &Vec<String>, shelf: &mut S,
     run_words(alloc, words, shelf, out, &mut None)
 }
 
-/// The same, and `kept`, which is `None` before, is the checked program where the mode is `validate` or `seek` and the
-/// stages came to one: it is that of the program's file. So whoever explains the answer need not read it again.
+/// The same. Where the mode is `validate` or `seek`, `kept`, which is `None` before, may be a checked program of the
+/// program's file; that one is kept isn't promised. So whoever explains the answer need not read the file again.
 pub fn run_keeping<S: Shelf, O: Sink>(
     alloc: Global,
     words: &Vec<String>,
