@@ -2,7 +2,7 @@
 use crate::cases::{Case, Judged, evaluate};
 use crate::inputs::numbered_input;
 use crate::told::{Told, told_by_net};
-use crate::{arrays, branches, loops, operators, products};
+use crate::{arrays, branches, limits, loops, operators, products};
 use c_core::{DataModel, Property};
 use c_havoc::run_havoc;
 use c_meaning::{Draw, HavocEnd};
@@ -99,7 +99,18 @@ fn loops_and_operators_are_told_alike(rt: HostRuntime) -> Result<(), Fail> {
     for case in &operators::CASES {
         assert_eq!(rt; differing(rt.alloc(), case)?, 0, "{}", case.name);
     }
+    Ok(())
+}
+
+#[test]
+fn products_and_quotients_are_told_alike(rt: HostRuntime) -> Result<(), Fail> {
     for case in &products::CASES {
+        assert_eq!(rt; differing(rt.alloc(), case)?, 0, "{}", case.name);
+    }
+    for case in &products::LARGER {
+        assert_eq!(rt; differing(rt.alloc(), case)?, 0, "{}", case.name);
+    }
+    for case in &limits::CASES {
         assert_eq!(rt; differing(rt.alloc(), case)?, 0, "{}", case.name);
     }
     Ok(())

@@ -93,8 +93,8 @@ int main() {
     },
 ];
 
-// Quotients, orders and ways that come together, whose nets are larger.
-const LARGER: [Case; 4] = [
+/// Quotients, orders and ways that come together, whose nets are larger.
+pub const LARGER: [Case; 4] = [
     Case {
         name: "quotients and remainders of both signs",
         source: "\
@@ -209,7 +209,7 @@ int main() {
 ];
 
 // Programs whose obligations are decided by words and facts alone.
-const SETTLED: [Case; 15] = [
+const SETTLED: [Case; 16] = [
     Case {
         name: "the same product twice",
         source: "\
@@ -517,6 +517,28 @@ int main() {
 ",
         claims: &[(Loop, 7, "0 <= i && i <= 100")],
     },
+    Case {
+        name: "a search in a row",
+        source: "\
+void reach_error() { }
+int __VERIFIER_nondet_int();
+int main() {
+  int a[2][10];
+  int q = __VERIFIER_nondet_int();
+  int i = 0;
+  while (1) {
+    if (i >= 10) break;
+    if (a[1][i] == q) break;
+    i = i + 1;
+  }
+  if (!(i >= 10 || a[1][i] == q)) {
+    reach_error();
+  }
+  return 0;
+}
+",
+        claims: &[(Loop, 7, "0 <= i && i <= 10")],
+    },
 ];
 
 // Under this many of all pairs of numbers below a bound, the first two that are drawn, net and run differ.
@@ -533,19 +555,32 @@ fn differing_below(alloc: Global, judged: &Judged, bound: u64) -> Result<u64, Ou
     Ok(count)
 }
 
-fn differing(alloc: Global, case: &Case, property: Property, bound: u64) -> Result<u64, Fail> {
-    let judged = evaluate(alloc, case.source, case.claims, property, DataModel::Lp64).ok_or(
-        case.name,
-    )?;
+/// The properties and data models that programs are tried in.
+pub const SETTINGS: [(Property, DataModel); 4] = [
+    (Property::UnreachCall, DataModel::Lp64),
+    (Property::UnreachCall, DataModel::Ilp32),
+    (Property::NoOverflow, DataModel::Lp64),
+    (Property::NoOverflow, DataModel::Ilp32),
+];
+
+/// The same of a program in one of the settings.
+pub fn differing(
+    alloc: Global,
+    case: &Case,
+    setting: (Property, DataModel),
+    bound: u64,
+) -> Result<u64, Fail> {
+    let (property, model) = setting;
+    let judged = evaluate(alloc, case.source, case.claims, property, model).ok_or(case.name)?;
     Ok(differing_below(alloc, &judged, bound)?)
 }
 
 #[test]
 fn products_of_four_bits_are_told_alike(rt: HostRuntime) -> Result<(), Fail> {
     for case in &CASES {
-        for property in [Property::UnreachCall, Property::NoOverflow] {
+        for setting in SETTINGS {
             assert_eq!(rt;
-                differing(rt.alloc(), case, property, 16)?,
+                differing(rt.alloc(), case, setting, 16)?,
                 0,
                 "{}",
                 case.name
@@ -558,9 +593,9 @@ fn products_of_four_bits_are_told_alike(rt: HostRuntime) -> Result<(), Fail> {
 #[test]
 fn quotients_of_three_bits_are_told_alike(rt: HostRuntime) -> Result<(), Fail> {
     for case in &LARGER {
-        for property in [Property::UnreachCall, Property::NoOverflow] {
+        for setting in SETTINGS {
             assert_eq!(rt;
-                differing(rt.alloc(), case, property, 8)?,
+                differing(rt.alloc(), case, setting, 8)?,
                 0,
                 "{}",
                 case.name
