@@ -16,4 +16,4 @@ pub mod Certified
 pub mod Completed
 pub mod MadeWitness
 pub mod FirstLine
-pub mod Keeping
+pub mod KeptLaws

@@ -60,7 +60,7 @@ fn stopped_at_source(alloc: Global, stop: Stop) -> Result<Reply, OutOfMemory>
 }
 
 /// The verdict on a program, a property and a witness; the checked program is kept.
-#[tactic(auto, using(crate::proofs::Keeping::nothing_kept))]
+#[tactic(auto, using(crate::proofs::KeptLaws::nothing_kept))]
 fn validate<S: Shelf>(
     alloc: Global,
     names: &Names<'_>,
@@ -161,7 +161,7 @@ fn turns_of(turns: u64) -> u32
 }
 
 /// Values for the open inputs of a violation witness; the checked program is kept.
-#[tactic(auto, using(crate::proofs::Keeping::nothing_kept))]
+#[tactic(auto, using(crate::proofs::KeptLaws::nothing_kept))]
 fn seek<S: Shelf>(
     alloc: Global,
     names: &Names<'_>,

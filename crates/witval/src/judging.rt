@@ -41,7 +41,7 @@ use wv_task::{judge_task, property};
 use wv_yaml::{Tree, read};
 
 /// The output for three files of allowed length.
-#[tactic(auto, using(crate::proofs::Keeping::nothing_kept))]
+#[tactic(auto, using(crate::proofs::KeptLaws::nothing_kept))]
 pub fn judge(
     alloc: Global,
     inputs: &Inputs,
@@ -69,7 +69,7 @@ pub fn judge(
 }
 
 /// The output for a program and the bytes of a witness.
-#[tactic(auto, using(crate::proofs::Keeping::nothing_kept))]
+#[tactic(auto, using(crate::proofs::KeptLaws::nothing_kept))]
 pub fn judge_bytes(
     alloc: Global,
     property: Property,
@@ -91,7 +91,7 @@ pub fn judge_bytes(
 }
 
 /// The output for a program and the tree of its witness.
-#[tactic(auto, using(crate::proofs::Keeping::nothing_kept))]
+#[tactic(auto, using(crate::proofs::KeptLaws::nothing_kept))]
 fn judge_tree(
     alloc: Global,
     property: Property,
@@ -114,7 +114,7 @@ fn judge_tree(
 }
 
 /// The output for a program and its witness.
-#[tactic(auto, using(crate::proofs::Keeping::nothing_kept))]
+#[tactic(auto, using(crate::proofs::KeptLaws::nothing_kept))]
 fn judge_witness(
     alloc: Global,
     property: Property,
@@ -139,7 +139,7 @@ fn judge_witness(
 
 /// The output for the text of a program in a data model, and a witness about it: a certificate is made, or read, for
 /// invariant sets alone, and only they are weeded; values are sought for violation sequences alone.
-#[tactic(auto, using(crate::proofs::Keeping::nothing_kept))]
+#[tactic(auto, using(crate::proofs::KeptLaws::nothing_kept))]
 fn judge_model(
     alloc: Global,
     property: Property,
@@ -193,7 +193,7 @@ fn judge_model(
 }
 
 /// The output where something is to be done for violation sequences alone.
-#[tactic(auto, using(crate::proofs::Keeping::nothing_kept))]
+#[tactic(auto, using(crate::proofs::KeptLaws::nothing_kept))]
 fn judge_segments_alone(
     alloc: Global,
     property: Property,
@@ -225,7 +225,7 @@ fn refuse_kind(alloc: Global) -> Result<Output, OutOfMemory>
 }
 
 /// The output for the text of a program in a data model, invariant sets about it, and the bytes of a certificate.
-#[tactic(auto, using(crate::proofs::Keeping::nothing_kept))]
+#[tactic(auto, using(crate::proofs::KeptLaws::nothing_kept))]
 fn judge_certificate(
     alloc: Global,
     property: Property,
@@ -251,7 +251,7 @@ fn judge_certificate(
 }
 
 /// The output for the text of a program in a data model, and a witness about it.
-#[tactic(auto, using(crate::proofs::Keeping::nothing_kept, crate::proofs::Keeping::of_bytes))]
+#[tactic(auto, using(crate::proofs::KeptLaws::nothing_kept, crate::proofs::KeptLaws::of_bytes))]
 fn judge_text(
     alloc: Global,
     property: Property,
@@ -275,7 +275,7 @@ fn judge_text(
 }
 
 /// The output for the tokens of a program, and a witness about it.
-#[tactic(auto, using(crate::proofs::Keeping::nothing_kept, crate::proofs::Keeping::of_tokens))]
+#[tactic(auto, using(crate::proofs::KeptLaws::nothing_kept, crate::proofs::KeptLaws::of_tokens))]
 fn judge_tokens(
     alloc: Global,
     property: Property,
@@ -299,7 +299,7 @@ fn judge_tokens(
 }
 
 /// The output for a source, and a witness about it.
-#[tactic(auto, using(crate::proofs::Keeping::nothing_kept))]
+#[tactic(auto, using(crate::proofs::KeptLaws::nothing_kept))]
 fn judge_source(
     alloc: Global,
     property: Property,

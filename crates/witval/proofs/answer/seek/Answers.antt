@@ -1,7 +1,7 @@
 use Rattle.std.proofs.Common.{IfOk, subst}
 use Rattle.wv_arguments.specs.Requests.{named}
 use Rattle.witval.specs.Purposes.{RightOnInputs, Seeking}
-use Rattle.witval.proofs.Keeping.{of_file}
+use Rattle.witval.proofs.KeptLaws.{of_file}
 use Rattle.witval.proofs.OfBytes.{stopped}
 use Rattle.witval.proofs.Searched.{seek_if}
 use Rattle.witval.proofs.answer.seek.Goals as goal

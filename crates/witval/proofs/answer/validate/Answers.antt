@@ -1,7 +1,7 @@
 use Rattle.wv_arguments.specs.Requests.{limits, named}
 use Rattle.witval.specs.Purposes.{Judging}
 use Rattle.witval.proofs.Judged.{verdict_if}
-use Rattle.witval.proofs.Keeping.{of_file}
+use Rattle.witval.proofs.KeptLaws.{of_file}
 use Rattle.witval.proofs.OfBytes.{stopped}
 use Rattle.witval.proofs.answer.validate.Goals as goal
 

@@ -5,7 +5,7 @@ use Rattle.witval.specs.Kept.{KeepsFor}
 use Rattle.witval.specs.Running.{CompleteFor, RunsFor}
 use Rattle.witval.specs.inside.Allowed.{AreAllowed}
 use Rattle.witval.proofs.AllowedBudgets.{allowed}
-use Rattle.witval.proofs.Keeping.{none_for}
+use Rattle.witval.proofs.KeptLaws.{none_for}
 use Rattle.witval.proofs.top.run_words.Goals as goal
 
 pub run_asked-requires-clause-allowed : goal.run_asked-requires-clause-allowed
