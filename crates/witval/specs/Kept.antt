@@ -6,7 +6,7 @@ use Rattle.c_core.specs.declared.number.Property.{Property}
 use Rattle.c_core.specs.declared.program.Program.{Program}
 use Rattle.c_parser.specs.Parsing.{Answers as ParserAnswers, source_view}
 use Rattle.c_parser.specs.Tree.{Item}
-use Rattle.c_parser.specs.declared.source.Source.{Source}
+use Rattle.c_parser.specs.declared.item.Source.{Source}
 use Rattle.c_tokens.specs.Reading.{Answers as TokensAnswers}
 use Rattle.c_tokens.specs.declared.token.Token.{Token}
 use Rattle.wv_base.specs.Shelf.{ShelfState}

@@ -30,4 +30,4 @@ pub returns-in_ok-stopped-in-Err-clause-integers : goal.returns-in_ok-stopped-in
 returns-in_ok-stopped-in-Err-clause-integers g c = (stopped (named c.args.names.now) (Seeking c.args.turns c.args.conflicts) _ _ c.in-Err.stop _ c.in_ok-stopped-in-Err.ensures c.in-Err.ensures.stop).1
 
 pub returns-in-Ok-clause-kept : goal.returns-in-Ok-clause-kept
-returns-in-Ok-clause-kept g c = of_file (named c.args.names.now) _ c.in-Ok.inputs _ c.in-Ok.ensures.inputs c.judge.ensures.kept
+returns-in-Ok-clause-kept g c = of_file (named c.args.names.now) (g.S.Shelf.state c.args.shelf.now) c.in-Ok.inputs _ c.in-Ok.ensures.inputs c.judge.ensures.kept
