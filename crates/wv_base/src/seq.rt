@@ -68,6 +68,10 @@ impl<T: Drop> Seq<T> {
         ensures ok { OnOk result (self.new ≡ self.old ++ item ∷ []) }
         ensures refused { OnErr result (self.new ≡ self.old) }
     {
+        // Most lists of a tree have one item, and a vector's own first room is for four.
+        if self.items.capacity() == 0 {
+            self.items.try_reserve_exact(1)?;
+        }
         self.items.push(item)?;
         Ok(())
     }
