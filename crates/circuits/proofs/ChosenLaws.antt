@@ -1,21 +1,19 @@
 -- Words that tests chose: what is left of them where the test is known.
 use Rattle.std.proofs.Common.{◌≡◌, ℕ, ◌+◌, ◌*◌, ◌^◌, ◌<◌, Bool, true, false, not, ◌&&◌, ◌||◌, List, [], ◌∷◌, ◌++◌, length, get_or, take, refl, sym, ◌∙◌, ap, ap₂, subst, arith, length-append}
 use Rattle.std.proofs.Math.Bool.{beq}
-use Rattle.std.proofs.lemmas.List.Elements.{All-append, All-cons, All-get_or, All-nil}
+use Rattle.std.proofs.lemmas.List.Elements.{All-append, All-cons}
 use Rattle.std.proofs.lemmas.List.{take_more, take_all, length-take-le}
+use Rattle.c_core.specs.declared.number.DataModel.{DataModel}
+use Rattle.c_core.specs.declared.number.IntType.{IntType}
 use Rattle.circuits.specs.declared.net.Bit.{Bit}
 use Rattle.circuits.specs.declared.net.NetNode.{NetNode}
-use Rattle.circuits.specs.declared.chosen.Place.{Place}
 use Rattle.circuits.specs.Net.{holds, opposite, IsIn}
-use Rattle.circuits.specs.Numbers.{digit, number, AreIn}
+use Rattle.circuits.specs.Numbers.{digit, number, AreIn, AreTyped}
 use Rattle.circuits.specs.Facts.{Condition, AllFollow, AreArms, IsAlike, IsAnswer, IsNowhere}
-use Rattle.circuits.specs.Chosen.{AreAlike, IsPlace}
+use Rattle.circuits.specs.Chosen.{AreAlike, AreInEither}
 use Rattle.circuits.proofs.Counting.{in_none, snoc}
 use Rattle.circuits.proofs.FactLaws.{plain_sign, sign_known}
 use Rattle.circuits.proofs.Nets.{holds-opposite}
-
-or_never : (x : Bool) → x ≡ true → (x || false) ≡ true
-or_never x e = ap (λ k. k || false) e
 
 second_of : (x y : Bool) → (x || y) ≡ true → (x ≡ true → ⊥) → y ≡ true
 second_of true y e n = absurd (n refl)
@@ -26,44 +24,28 @@ first_of true y e n = refl
 first_of false y e n = absurd (n e)
 
 -- ---- places
--- no bit is known wherever nothing is
-pub none_follows : (net : List NetNode) (here : Condition) → AllFollow net here []
-none_follows net here = record { inside = in_none (λ b. IsIn net b); is = λ v e. in_none (λ b. holds v net b ≡ true) }
-
-pub lone_place : {net : List NetNode} {here one : Condition} (p : Place) → p.two ≡ false → p.second.items ≡ [] → ((v : ℕ → Bool) → here v ≡ true → one v ≡ true) → AllFollow net one p.first.items → IsPlace net here p
-lone_place {net} {here} {one} p alone none inside f = record {
-  one = one;
-  other = λ v. false;
-  either = λ v h. ap₂ (λ x y. x || (y && false)) (inside v h) alone;
-  first = f;
-  second = rw none (none_follows net (λ v. false));
-}
-
 pub only_second : {here one : Condition} (other : Condition) → ((v : ℕ → Bool) → here v ≡ true → (one v || other v) ≡ true) → IsNowhere one → (v : ℕ → Bool) → here v ≡ true → other v ≡ true
 only_second {here} {one} other e n v h = second_of (one v) (other v) (e v h) (n v)
 
 pub only_first : {here other : Condition} (one : Condition) → ((v : ℕ → Bool) → here v ≡ true → (one v || other v) ≡ true) → IsNowhere other → (v : ℕ → Bool) → here v ≡ true → one v ≡ true
 only_first {here} {other} one e n v h = first_of (one v) (other v) (e v h) (n v)
 
-pub two_places : {net : List NetNode} {here one other : Condition} (p : Place) → p.two ≡ true → ((v : ℕ → Bool) → here v ≡ true → (one v || other v) ≡ true) → AllFollow net one p.first.items → AllFollow net other p.second.items → IsPlace net here p
-two_places {net} {here} {one} {other} p both e f g = record {
-  one = one;
-  other = other;
-  either = λ v h. ap (λ y. one v || (y && other v)) both ∙ e v h;
-  first = f;
-  second = g;
-}
+-- what follows from a condition follows from one that is met less often
+pub follow_within : {net : List NetNode} {here one : Condition} {bits : List Bit} → ((v : ℕ → Bool) → here v ≡ true → one v ≡ true) → AllFollow net one bits → AllFollow net here bits
+follow_within inside f = record { inside = f.inside; is = λ v h. f.is v (inside v h) }
 
-by_places : (one two other x value_is : Bool) → (one || (two && other)) ≡ true → (one ≡ true → x ≡ value_is) → (two ≡ true → other ≡ true → x ≡ value_is) → x ≡ value_is
-by_places true two other x value_is e f g = f refl
-by_places false true other x value_is e f g = g refl e
-by_places false false other x value_is e f g = cc
+pub in_either : {net : List NetNode} {here one other : Condition} {first second : List Bit} → ((v : ℕ → Bool) → here v ≡ true → (one v || other v) ≡ true) → AllFollow net one first → AllFollow net other second → AreInEither net here first second
+in_either {net} {here} {one} {other} e f g = record { one = one; other = other; either = e; in_one = f; in_other = g }
 
--- a value in both places, or in the one that there is
-pub answer_at : {net : List NetNode} {here : Condition} {b : Bit} {value_is : Bool} (p : Place) → IsPlace net here p → ((one : Condition) → AllFollow net one p.first.items → IsAnswer net one b value_is)
-    → (p.two ≡ true → (other : Condition) → AllFollow net other p.second.items → IsAnswer net other b value_is) → IsAnswer net here b value_is
-answer_at {net} {here} {b} {value_is} p h first second = record {
-  is = λ v e. by_places (h.one v) p.two (h.other v) (holds v net b) value_is (h.either v e) (λ k. (first h.one h.first).is v k) (λ t k. (second t h.other h.second).is v k);
+by_places : (one other x value_is : Bool) → (one || other) ≡ true → (one ≡ true → x ≡ value_is) → (other ≡ true → x ≡ value_is) → x ≡ value_is
+by_places true other x value_is e f g = f refl
+by_places false other x value_is e f g = g e
+
+-- a value in both places
+pub answer_in_either : {net : List NetNode} {here : Condition} {first second : List Bit} {b : Bit} {value_is : Bool} → AreInEither net here first second → ((one : Condition) → AllFollow net one first → IsAnswer net one b value_is)
+    → ((other : Condition) → AllFollow net other second → IsAnswer net other b value_is) → IsAnswer net here b value_is
+answer_in_either {net} {here} {b = b} {value_is} h first second = record {
+  is = λ v e. by_places (h.one v) (h.other v) (holds v net b) value_is (h.either v e) (λ k. (first h.one h.in_one).is v k) (λ k. (second h.other h.in_other).is v k);
 }
 
 both_arms : (h x y : Bool) → h ≡ true → (x || y) ≡ true → ((h && x) || (h && y)) ≡ true
@@ -93,6 +75,10 @@ answer_opposite {net} {b = b} r e f a = record { is = λ v h. ap (holds v net) e
 -- ---- words
 pub alike_words : {net : List NetNode} {here : Condition} (bits : List Bit) → AreIn net bits → AreAlike net here bits bits
 alike_words bits h = record { inside = h; wide = refl; is = λ v e. refl }
+
+-- bits that have the number of others are of the same type
+pub alike_typed : {here : Condition} {bits rest : List Bit} (model : DataModel) (net : List NetNode) (ty : IntType) → AreTyped model ty net bits → AreAlike net here bits rest → AreTyped model ty net rest
+alike_typed model net ty h a = record { inside = a.inside; wide = a.wide ∙ h.wide }
 
 pub alike_then : {net : List NetNode} {here : Condition} {a b c : List Bit} → AreAlike net here a b → AreAlike net here b c → AreAlike net here a c
 alike_then x y = record { inside = y.inside; wide = y.wide ∙ x.wide; is = λ v e. x.is v e ∙ y.is v e }

@@ -13,55 +13,38 @@ use crate::{Bit, NetNode, not};
 use std::alloc::Global;
 use wv_base::OutOfMemory;
 
-// a test is looked into so deep
+// conjunctions are taken apart so deep where a bit's value is looked for
 const DEPTH: u32 = 4;
 
-// a digit of a choice has its test so deep
+// the test of a choice stands at most so deep in a digit of it: (test and yes) or (not test and no)
 const CHOICE: u32 = 2;
 
-// of so many digits at most a test is looked for
+// the test is looked for in at most so many digits, since all have the same one
 const MOST_DIGITS: usize = 2;
 
-// so often a word is what is left of another
+// choices in choices are settled so often
 const MOST_CHOICES: usize = 8;
 
-/// Bits that are known where runs are: those of one place, or of either of two.
+/// Bits that are known where runs are, or in either of two places where they are.
 #[derive(Drop)]
-pub struct Place {
-    pub first: Vec<Bit>,
-    pub second: Vec<Bit>,
-    pub two: bool,
-}
-
-// one place, where these are known
-fn lone(alloc: Global, known: Vec<Bit>) -> Place
-    ensures { (net : List NetNode) (here one : Condition) → ((v : ℕ → Bool) → here v ≡ true → one v ≡ true)
-        → AllFollow net one known.items → IsPlace net here result }
-{
-    Place {
-        first: known,
-        second: Vec::new(alloc),
-        two: false,
-    }
+pub enum Place {
+    Lone(Vec<Bit>),
+    Either(Vec<Bit>, Vec<Bit>),
 }
 
 // either of two places; one of them, where no run is in the other
-fn either(alloc: Global, from: usize, first: Vec<Bit>, second: Vec<Bit>) -> Place
+fn either(from: usize, first: Vec<Bit>, second: Vec<Bit>) -> Place
     ensures { (net : List NetNode) (here one other : Condition)
         → ((v : ℕ → Bool) → here v ≡ true → (one v || other v) ≡ true) → AllFollow net one first.items
         → AllFollow net other second.items → IsPlace net here result }
 {
     if is_contradictory(&first, from) {
-        return lone(alloc, second);
+        return Place::Lone(second);
     }
     if is_contradictory(&second, from) {
-        return lone(alloc, first);
+        return Place::Lone(first);
     }
-    Place {
-        first,
-        second,
-        two: true,
-    }
+    Place::Either(first, second)
 }
 
 // what is known where a bit is true
@@ -75,11 +58,11 @@ fn place_at(nodes: &[NetNode], hints: &Hints, live: Bit) -> Result<Place, OutOfM
     bits.push(live)?;
     let known = taken_apart(nodes, hints, bits, 0)?;
     let Some(arms) = arms(nodes, hints, &known) else {
-        return Ok(lone(alloc, known));
+        return Ok(Place::Lone(known));
     };
     let first = assumed(alloc, nodes, hints, &known, arms.left)?;
     let second = assumed(alloc, nodes, hints, &known, arms.right)?;
-    Ok(either(alloc, known.len(), first, second))
+    Ok(either(known.len(), first, second))
 }
 
 // the value that a bit has wherever runs are
@@ -88,13 +71,15 @@ fn value_at(nodes: &[NetNode], place: &Place, bit: Bit) -> Option<bool>
     ensures { IfSome result (λ value. (here : Condition) → IsPlace nodes.now here place.now
         → IsAnswer nodes.now here bit value) }
 {
-    let first = value_by_parts(nodes, &place.first, DEPTH, bit)?;
-    if !place.two {
-        return Some(first);
-    }
-    match value_by_parts(nodes, &place.second, DEPTH, bit) {
-        Some(second) if second == first => Some(first),
-        _ => None,
+    match place {
+        Place::Lone(known) => value_by_parts(nodes, known, DEPTH, bit),
+        Place::Either(first, second) => {
+            let value = value_by_parts(nodes, first, DEPTH, bit)?;
+            match value_by_parts(nodes, second, DEPTH, bit) {
+                Some(other) if other == value => Some(value),
+                _ => None,
+            }
+        }
     }
 }
 
@@ -194,8 +179,22 @@ fn rest_of_word(
     Ok(rest)
 }
 
-/// Bits that have the number of others wherever `live` is true: what is left of a word that tests chose, where these are
-/// known.
+/// Whether bits may be settled: a word of which more is known than an unknown of its own, with a conjunction in it.
+pub fn is_choice(nodes: &[NetNode], hints: &Hints, bits: &[Bit]) -> bool {
+    hints.words.is_told(bits) && has_conjunction(nodes, bits)
+}
+
+fn has_conjunction(nodes: &[NetNode], bits: &[Bit]) -> bool {
+    for digit in bits {
+        if is_conjunction(nodes, *digit) {
+            return true;
+        }
+    }
+    false
+}
+
+/// Bits that have the number of others wherever `live` is true: what is left of a word that tests chose, where these
+/// are known.
 pub fn settled(
     nodes: &[NetNode],
     hints: &Hints,
@@ -209,9 +208,6 @@ pub fn settled(
 {
     let alloc = hints.alloc;
     let mut word = bits.to_vec(alloc)?;
-    if !hints.words.is_told(alloc, bits) {
-        return Ok(word);
-    }
     let place = place_at(nodes, hints, live)?;
     for choice in 0..MOST_CHOICES {
         let Some(test) = test_of(nodes, &place, &word) else {
@@ -219,7 +215,7 @@ pub fn settled(
         };
         word = rest_of_word(alloc, nodes, test, &word)?;
         // facts speak of a word that is an unknown
-        if !hints.words.is_told(alloc, &word) {
+        if !hints.words.is_told(&word) {
             break;
         }
     }

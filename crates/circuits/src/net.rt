@@ -40,14 +40,14 @@ pub struct Net {
     hints: Hints,
     /// how many questions facts may still be asked
     questions: u32,
-    /// how many words may still be settled
-    words: u32,
+    /// how many choices may still be settled
+    choices: u32,
 }
 
 // so many questions facts are asked for a net; each takes some milliseconds at most
 const MOST_QUESTIONS: u32 = 1000;
 
-// so many words are settled for a net; each takes a tenth of a millisecond at most
+// so many choices are settled for a net; each looks into what is known at its place
 const MOST_SETTLED: u32 = 10_000;
 
 impl Model for Net {
@@ -105,7 +105,7 @@ impl Net {
             shared: Shared::new(alloc),
             hints: Hints::new(alloc),
             questions: MOST_QUESTIONS,
-            words: MOST_SETTLED,
+            choices: MOST_SETTLED,
         })
     }
 
@@ -350,8 +350,8 @@ impl Net {
         }
     }
 
-    /// Bits that have the number of others wherever `live` is true: what is left of a word that tests chose, where these
-    /// are known. A word that is an unknown stays as it is, since facts speak of it. No node is added.
+    /// Bits that have the number of others wherever `live` is true: what is left of a word that tests chose, where
+    /// these are known. A word that is an unknown stays as it is, since facts speak of it. No node is added.
     pub fn settled(
         &mut self,
         alloc: Global,
@@ -363,10 +363,10 @@ impl Net {
         ensures same { self.new ≡ self.old }
         ensures alike { IfOk result (λ r. AreAlike self.old (λ v. holds v self.old live) bits.now r.items) }
     {
-        if self.words == 0 {
+        if self.choices == 0 || !chosen::is_choice(&self.nodes, &self.hints, bits) {
             return Ok(bits.to_vec(alloc)?);
         }
-        self.words -= 1;
+        self.choices -= 1;
         chosen::settled(&self.nodes, &self.hints, live, bits)
     }
 

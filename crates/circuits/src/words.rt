@@ -8,7 +8,7 @@ ghost use Rattle.circuits.specs.Facts.{IsDigit};
 
 use crate::slots::{REACH, Slots};
 use crate::{Bit, NetNode};
-use polynomials::Polynomial;
+use polynomials::{Polynomial, Term};
 use std::alloc::Global;
 use wv_base::OutOfMemory;
 
@@ -212,27 +212,28 @@ impl Words {
         lone_digit(bits).is_some() || constant_of(bits).is_some() || self.find(bits).is_some()
     }
 
-    /// Whether bits are constants, or a word.
+    /// Whether bits are constants, a digit alone, or a word.
     pub fn is_word(&self, bits: &[Bit]) -> bool {
         for bit in bits {
             if bit.node != 0 {
-                return self.find(bits).is_some();
+                return lone_digit(bits).is_some() || self.find(bits).is_some();
             }
         }
         true
     }
 
     /// Whether more is known of bits than an unknown of their own.
-    pub fn is_told(&self, alloc: Global, bits: &[Bit]) -> bool {
+    pub fn is_told(&self, bits: &[Bit]) -> bool {
         let Some(at) = self.find(bits) else {
             return false;
         };
-        match (
-            self.list.get(at),
-            Polynomial::unknown(alloc, 2 * at as u32 + 2),
-        ) {
-            (Some(word), Ok(own)) => !word.polynomial.same_terms(&own),
-            _ => false,
+        let own = Term {
+            coefficient: 1,
+            factors: [2 * at as u32 + 2, 0, 0, 0, 0, 0],
+        };
+        match self.list.get(at) {
+            Some(word) => word.polynomial.terms() != [own].as_slice(),
+            None => false,
         }
     }
 

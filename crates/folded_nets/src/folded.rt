@@ -1,5 +1,5 @@
 // A net that follows another one.
-ghost use Rattle.std.specs.Prelude.{◌≡◌, ℕ, Bool, ◌+◌, ◌<◌, ◌≤◌, ◌==◌, ◌^◌, ◌&&◌, false, IfOk, OnOk, IfSome, length, set};
+ghost use Rattle.std.specs.Prelude.{◌≡◌, ◌+◌, ◌<◌, ◌==◌, ◌^◌, ◌&&◌, IfOk, OnOk, IfSome, length, set};
 ghost use Rattle.circuits.specs.Net.{holds, Grown, IsIn, Means};
 ghost use Rattle.folded_nets.specs.Following.{AreAllApart, Follows, AreApart, IsBut, IsNever, IsNextOf, SameBut, never_true};
 

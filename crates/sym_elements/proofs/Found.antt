@@ -167,10 +167,6 @@ module _ (p : Program) (s : Sym) where
       wherever always v (in_row c (index_of s.net (rows_of p o) (is_signed row_type) row v) (index_of s.net c (is_signed column_type) column v))
       ∙ ap₂ (in_row c) (typed_index p row_type row (rows_of p o) v hr) (typed_index p column_type column c v hc))
 
--- bits that have the number of others where a run is are of the same type
-pub alike_typed : {here : Condition} {index rest : List Bit} (p : Program) (net : List NetNode) (ty : IntType) → AreTyped p.model ty net index → AreAlike net here index rest → AreTyped p.model ty net rest
-alike_typed p net ty h a = record { inside = a.inside; wide = a.wide ∙ h.wide }
-
 pub alike_index : {here : Condition} {index rest : List Bit} (p : Program) (s : Sym) (o : ℕ) (ty : IntType) → AreAlike s.net here index rest → (v : ℕ → Bool) → here v ≡ true → index_in p o ty rest s v ≡ index_in p o ty index s v
 alike_index p s o ty a v h = ap (λ n. index_below (size_of_object p o) (read (width_of p.model ty) (is_signed ty) n)) (sym (a.is v h))
 

@@ -183,10 +183,6 @@ module _ (p : Program) (at : Around) (spot : Spot) (op : BinOp) (a b : IntType) 
       (subst (λ t. Gives p W (5 + (C.conversion_cost p.model a t + (C.conversion_cost p.model b right + C.binary_cost p.model op t))) 0 s n (Some (C.binary_type op t)) o.value.bits (λ v l. answered p W (where_of at) (done_in t right v) l)) et
       (in_types ty right W d m h iy g1 r1 g2 r2 g3 c z))
 
--- bits that have the number of others where a run is are of the same type
-pub alike_typed : {here : Condition} {bits rest : List Bit} (p : Program) (net : List NetNode) (ty : IntType) → AreTyped p.model ty net bits → AreAlike net here bits rest → AreTyped p.model ty net rest
-alike_typed p net ty h a = record { inside = a.inside; wide = a.wide ∙ h.wide }
-
 -- an operator of such sides
 module _ (p : Program) (W : Mode) (at : Around) (spot : Spot) (op : BinOp) (a b ty : IntType) (s n : Sym) (x y u w value : List Bit) (cost : ℕ) where
   abbrev does_on : (ℕ → Bool) → List ℤ → List ℤ → ℕ → ℕ → Type 0

@@ -9,7 +9,7 @@ use view_text::{Files, Message};
 use wv_base::OutOfMemory;
 
 /// The version of the program: that of `release/VERSION`, which `tools/check-documents` compares.
-const VERSION: &str = "0.18";
+const VERSION: &str = "0.19";
 
 /// From this status on the files weren't judged: one can't be read.
 const UNREAD: u32 = 4;

@@ -17,7 +17,7 @@ use Rattle.witval.specs.Inputs.{OfOne}
 abbrev pub KeepsOfSource : Property → DataModel → List Item → Option Program → Type 0
 KeepsOfSource property model source kept = IfSome kept (λ program. CheckAnswers model property source (Ok program))
 
--- of tokens
+-- of tokens: what the parser makes of them, and the checker of that
 pub record IsOfTokens (property : Property) (model : DataModel) (tokens : List Token) (program : Program) : Type 0 where
   pub source : Source
   pub parsed : ParserAnswers tokens (Ok source)
@@ -26,7 +26,7 @@ pub record IsOfTokens (property : Property) (model : DataModel) (tokens : List T
 abbrev pub KeepsOfTokens : Property → DataModel → List Token → Option Program → Type 0
 KeepsOfTokens property model tokens kept = IfSome kept (IsOfTokens property model tokens)
 
--- of the bytes of a file, for some property and in some data model
+-- of the bytes of a file, by way of its tokens; for which property and in which data model isn't said
 pub record IsOfBytes (bytes : List ℕ) (program : Program) : Type 0 where
   pub property : Property
   pub model : DataModel

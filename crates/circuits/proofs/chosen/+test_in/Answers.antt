@@ -1,5 +1,3 @@
-use Rattle.std.proofs.Common.{false, subst}
-use Rattle.circuits.specs.Facts.{IsAnswer}
 use Rattle.circuits.proofs.ChosenLaws.{answer_opposite}
 use Rattle.circuits.proofs.chosen.+test_in.Goals as goal
 

@@ -1,4 +1,4 @@
-use Rattle.std.proofs.Common.{◌≡◌, ◌∷◌, [], ◌++◌, ◌&&◌, subst, sym, ◌∙◌, ap}
+use Rattle.std.proofs.Common.{◌∷◌, [], ◌++◌, ◌&&◌, subst, sym, ◌∙◌, ap}
 use Rattle.circuits.specs.Net.{holds}
 use Rattle.circuits.specs.Facts.{AllFollow}
 use Rattle.circuits.proofs.FactLaws.{follow_own}
@@ -9,7 +9,7 @@ pub returns-in_default : goal.returns-in_default
 returns-in_default c =
     let net = c.args.nodes.now in
     let own = subst (λ l. AllFollow net (λ v. holds v net c.args.live) l) (ap (λ l. l ++ c.args.live ∷ []) (sym c.new-bits.ensures.items) ∙ sym c.in_ok-push.ensures.items) (follow_own net c.args.live c.requires.live_in) in
-    c.lone.ensures net (λ v. holds v net c.args.live) (λ v. holds v net c.args.live) (λ v h. h) (c.in_ok-known.ensures (λ v. holds v net c.args.live) own)
+    c.in_ok-known.ensures (λ v. holds v net c.args.live) own
 
 pub returns : goal.returns
 returns c =

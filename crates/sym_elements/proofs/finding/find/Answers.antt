@@ -7,7 +7,8 @@ use Rattle.sym_state.specs.declared.state.Sym.{Sym}
 use Rattle.sym_state.specs.Standing.{IsState}
 use Rattle.sym_state.proofs.Nets.{state_grown}
 use Rattle.sym_elements.specs.Elements.{Finds, found_cost, index_in}
-use Rattle.sym_elements.proofs.Found.{alike_index, alike_typed, finds, finds_as, index_found}
+use Rattle.circuits.proofs.ChosenLaws.{alike_typed}
+use Rattle.sym_elements.proofs.Found.{alike_index, finds, finds_as, index_found}
 use Rattle.sym_elements.proofs.finding.find.Goals as goal
 
 pub settled-requires-clause-bits_in : goal.settled-requires-clause-bits_in
@@ -33,6 +34,6 @@ returns c W =
     subst (λ k. Finds p W c.args.object (found_cost p c.args.ty c.args.object) (index_in p c.args.object c.args.ty index k) k c.end_outside.new.sym c.in_ok-places.places) same
     (finds_as p W
     (finds p W c.args.object (found_cost p c.args.ty c.args.object) fits
-    (index_found p s c.yes-yes.ensures c.args.object c.args.ty c.in_ok-settled.settled.items (alike_typed p s.net c.args.ty typed alike) (rw (c.deref.ensures.value, c.size_of_object-count.ensures) at c.in_ok-places.ensures)) (omega arith)
+    (index_found p s c.yes-yes.ensures c.args.object c.args.ty c.in_ok-settled.settled.items (alike_typed p.model s.net c.args.ty typed alike) (rw (c.deref.ensures.value, c.size_of_object-count.ensures) at c.in_ok-places.ensures)) (omega arith)
     (rw c.as_slice-2.ensures at c.in_ok-end_outside.ensures) (omega (arith, typed.wide, alike.wide, ap length c.deref.ensures.value)))
     (alike_index p s c.args.object c.args.ty alike))

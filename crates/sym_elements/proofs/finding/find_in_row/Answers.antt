@@ -7,7 +7,8 @@ use Rattle.sym_state.specs.declared.state.Sym.{Sym}
 use Rattle.sym_state.specs.Standing.{IsState}
 use Rattle.sym_state.proofs.Nets.{state_grown}
 use Rattle.sym_elements.specs.Elements.{Finds, found_row_cost, row_in}
-use Rattle.sym_elements.proofs.Found.{alike_row, alike_typed, finds, finds_as, row_found}
+use Rattle.circuits.proofs.ChosenLaws.{alike_typed}
+use Rattle.sym_elements.proofs.Found.{alike_row, finds, finds_as, row_found}
 use Rattle.sym_elements.proofs.finding.find_in_row.Goals as goal
 
 pub settled-requires-clause-bits_in : goal.settled-requires-clause-bits_in
@@ -43,7 +44,7 @@ returns c W =
     subst (λ k. Finds p W c.args.object cost (row_in p c.args.object c.args.row_type row c.args.column_type column k) k c.end_outside.new.sym c.in_ok-places.places) same
     (finds_as p W
     (finds p W c.args.object cost fits
-    (row_found p s c.yes-yes.ensures c.args.object c.args.row_type c.args.column_type rest_row rest_column (alike_typed p s.net c.args.row_type row_typed row_alike) (alike_typed p s.net c.args.column_type column_typed column_alike)
+    (row_found p s c.yes-yes.ensures c.args.object c.args.row_type c.args.column_type rest_row rest_column (alike_typed p.model s.net c.args.row_type row_typed row_alike) (alike_typed p.model s.net c.args.column_type column_typed column_alike)
     (rw (c.deref.ensures.value, c.deref-2.ensures.value) at c.in_ok-places.ensures.placed))
     c.in_ok-places.ensures.few (rw c.as_slice-3.ensures at c.in_ok-end_outside.ensures)
     (omega (arith, row_typed.wide, column_typed.wide, row_alike.wide, column_alike.wide, ap length c.deref.ensures.value, ap length c.deref-2.ensures.value, c.in_ok-places.ensures.few)))

@@ -9,7 +9,8 @@ use Rattle.circuits.specs.Outcome.{binary_type}
 use Rattle.sym_state.specs.declared.state.Sym.{Sym}
 use Rattle.sym_state.specs.Standing.{IsState}
 use Rattle.sym_values.specs.Valuing.{CountsWhere, Gives, operated, operated_cost}
-use Rattle.sym_values.proofs.Judging.{alike_typed, operated_alike}
+use Rattle.circuits.proofs.ChosenLaws.{alike_typed}
+use Rattle.sym_values.proofs.Judging.{operated_alike}
 use Rattle.sym_values.proofs.operators.operate.Goals as goal
 
 pub side-requires-clause-x_in : goal.side-requires-clause-x_in
@@ -31,12 +32,12 @@ operate_on-requires-clause-counts_in c = rw (c.side-2.ensures.same, c.side.ensur
 pub operate_on-requires-clause-x_in : goal.operate_on-requires-clause-x_in
 operate_on-requires-clause-x_in c =
     let p = program_view c.args.program.now in
-    rw (c.side-2.ensures.same, c.side.ensures.same) (alike_typed p c.args.sym.now.net c.args.a c.requires.x_in c.in_ok-left.ensures.alike)
+    rw (c.side-2.ensures.same, c.side.ensures.same) (alike_typed p.model c.args.sym.now.net c.args.a c.requires.x_in c.in_ok-left.ensures.alike)
 
 pub operate_on-requires-clause-y_in : goal.operate_on-requires-clause-y_in
 operate_on-requires-clause-y_in c =
     let p = program_view c.args.program.now in
-    rw c.side-2.ensures.same (alike_typed p c.side.new.net c.args.b (subst (λ n. AreTyped p.model c.args.b n c.args.y.now.bits) (sym c.side.ensures.same) c.requires.y_in) c.in_ok-right.ensures.alike)
+    rw c.side-2.ensures.same (alike_typed p.model c.side.new.net c.args.b (subst (λ n. AreTyped p.model c.args.b n c.args.y.now.bits) (sym c.side.ensures.same) c.requires.y_in) c.in_ok-right.ensures.alike)
 
 pub operate_on-requires-clause-room : goal.operate_on-requires-clause-room
 operate_on-requires-clause-room c = rw (c.side-2.ensures.same, c.side.ensures.same) c.requires.room
