@@ -331,8 +331,8 @@ impl Net {
             .note_quotient(&self.nodes, a, b, quotient, rest, some);
     }
 
-    /// The conjunction of where runs are and a bit. Where that bit's value is known there, no node is added; where a part
-    /// of it is, that part is left out.
+    /// The conjunction of where runs are and a bit. Where that bit's value is known there, no node is added; where a
+    /// part of it is, that part is left out.
     pub fn under(&mut self, live: Bit, bit: Bit) -> Result<Bit, OutOfMemory>
         requires live_in { IsIn self.old live }
         requires bit_in { IsIn self.old bit }
