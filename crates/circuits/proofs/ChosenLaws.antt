@@ -8,7 +8,7 @@ use Rattle.c_core.specs.declared.number.IntType.{IntType}
 use Rattle.circuits.specs.declared.net.Bit.{Bit}
 use Rattle.circuits.specs.declared.net.NetNode.{NetNode}
 use Rattle.circuits.specs.Net.{holds, opposite, IsIn}
-use Rattle.circuits.specs.Numbers.{digit, number, AreIn, AreTyped}
+use Rattle.circuits.specs.Numbers.{digit, AreIn, AreTyped}
 use Rattle.circuits.specs.Facts.{Condition, AllFollow, AreArms, IsAlike, IsAnswer, IsNowhere}
 use Rattle.circuits.specs.Chosen.{AreAlike, AreInEither}
 use Rattle.circuits.proofs.Counting.{in_none, snoc}

@@ -208,9 +208,10 @@ pub fn settled(
 {
     let alloc = hints.alloc;
     let mut word = bits.to_vec(alloc)?;
-    let place = place_at(nodes, hints, live)?;
+    let known = place_at(nodes, hints, live)?;
+    let place = &known;
     for choice in 0..MOST_CHOICES {
-        let Some(test) = test_of(nodes, &place, &word) else {
+        let Some(test) = test_of(nodes, place, &word) else {
             break;
         };
         word = rest_of_word(alloc, nodes, test, &word)?;

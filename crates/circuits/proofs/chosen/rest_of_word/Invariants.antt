@@ -1,4 +1,4 @@
-use Rattle.std.proofs.Common.{◌≡◌, true, take}
+use Rattle.std.proofs.Common.{true, take}
 use Rattle.circuits.specs.Facts.{Condition, IsAnswer}
 use Rattle.circuits.specs.Chosen.{AreAlike}
 use Rattle.circuits.proofs.chosen.rest_of_word.Given as goal
