@@ -5,8 +5,8 @@ NAME-WIDTH.c, NAME-WIDTH.yml, and unreach.prp for all. Prints their names.
 Usage: tasks.py FOLDER [PATTERN]. PATTERN is a regular expression, as `^ps2-32$`: the tasks whose names it is found in
 are written, and no others.
 
-Most programs are those of SV-COMP's nla-digbench, with the invariants that a person would write; the last five are
-loops without products. They are C but for these words, which `c_lines` replaces:
+Most programs are those of SV-COMP's nla-digbench, with the invariants that a person would write; the last six have
+no products. They are C but for these words, which `c_lines` replaces:
 
 - `wide` and `uwide` are the signed and the unsigned type of WIDTH bits: short, int or long long;
 - `draw(TYPE)` is an input of this type;
@@ -15,12 +15,13 @@ loops without products. They are C but for these words, which `c_lines` replaces
 
 Under unreach-call signed overflow wraps (docs/MEANING.md, "Runs"), and so the types are signed as in the competition.
 
-The obligations are those of an experiment with a symbolic evaluator in Python, of 55 tasks. Three things differ:
+The obligations are those of an experiment with a symbolic evaluator in Python, of 55 tasks. Four things differ:
 
 - An `int` of 16 digits can't be written. `division-16` converts its results to `short`: its check has the same value
   for all inputs, but its circuits are those of 32 digits.
 - How an element is read (by a tree of choices, or by a chain) is the validator's, so `search` is one task and not two.
-- The inner loop of cohendiv doubles a and b, as in the competition; in the experiment it changed nothing."""
+- The inner loop of cohendiv doubles a and b, as in the competition; in the experiment it changed nothing.
+- `checks` was added."""
 
 import hashlib
 import re
@@ -546,6 +547,15 @@ while (1) {
 check(i >= 100 || a[i] == q);
 """
 
+# Checks in a row, each weaker than the one before.
+CHECKS = "\n".join(
+    [
+        "int x = draw(int);",
+        "assume(x <= 1000);",
+        *(f"if (x > 1000 + {k}) reach_error();" for k in range(400)),
+    ]
+)
+
 PROGRAMS = [
     *POWER_SUMS,
     Program("sqrt1", (32, 64), SQRT1),
@@ -576,6 +586,7 @@ PROGRAMS = [
     Program("hhk2008", (32,), HHK2008),
     Program("bhmr2007", (32,), BHMR2007),
     Program("search", (32,), SEARCH),
+    Program("checks", (32,), CHECKS),
 ]
 
 # ---- their files
@@ -628,16 +639,23 @@ def write_task(folder, task, body):
     (folder / task.witness).write_text("\n".join(witness_lines(task.program, digest, invariants)) + "\n")
 
 
+def chosen(pattern=""):
+    """The tasks in whose names the pattern is found, each with the body of its program."""
+    return [
+        (Task(name, width, f"{name}-{width}.c", f"{name}-{width}.yml"), body)
+        for name, widths, body in PROGRAMS
+        for width in widths
+        if re.search(pattern, f"{name}-{width}")
+    ]
+
+
 def write(folder, pattern=""):
-    """The tasks in whose names the pattern is found; their files are written, and the property."""
+    """The chosen tasks; their files are written, and the property."""
     (folder / "unreach.prp").write_text(f"CHECK( init(main()), LTL({FORMULA}) )\n")
-    chosen = []
-    for name, widths, body in PROGRAMS:
-        for width in widths:
-            if re.search(pattern, f"{name}-{width}"):
-                chosen.append(Task(name, width, f"{name}-{width}.c", f"{name}-{width}.yml"))
-                write_task(folder, chosen[-1], body)
-    return chosen
+    listed = chosen(pattern)
+    for task, body in listed:
+        write_task(folder, task, body)
+    return [task for task, _ in listed]
 
 
 def main():
